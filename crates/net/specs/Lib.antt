@@ -1,0 +1,7 @@
+pub mod Sums
+pub mod Net
+pub mod Divisors
+pub mod Takes
+pub mod Fed
+pub mod Model
+pub mod Marking

@@ -1,0 +1,4 @@
+pub mod Sums
+pub mod Balance
+pub mod Weights
+pub mod Judged
