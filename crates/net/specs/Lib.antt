@@ -5,3 +5,4 @@ pub mod Takes
 pub mod Fed
 pub mod Model
 pub mod Marking
+pub mod ReadPlans

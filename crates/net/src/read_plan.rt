@@ -1,6 +1,7 @@
 // The state of a plan that was read and not opened yet.
 ghost use mathlib.Core.Path.{_≡_};
 ghost use Rattle.net.specs.Model.{net};
+ghost use Rattle.net.specs.ReadPlans.{readPlaces, readMoves};
 use crate::plan::Plan;
 
 // It is moved from state to state, so it is neither `Clone` nor `Copy`; it may be let go.
@@ -12,19 +13,20 @@ pub struct ReadPlan {
 
 impl ReadPlan {
     pub fn of(plan: &Plan) -> ReadPlan
-        ensures { λ r. ⌜ r .places ≡ net (now (plan .entry)) .places ⌝ ∗ ⌜ r .moves ≡ net (now (plan .entry)) .moves ⌝ }
+        ensures places { λ r. ⌜ readPlaces r ≡ net (now (plan .entry)) .places ⌝ }
+        ensures moves { λ r. ⌜ readMoves r ≡ net (now (plan .entry)) .moves ⌝ }
     {
         ReadPlan { places: plan.places(), moves: plan.moves() }
     }
 
     pub fn places(&self) -> u32
-        ensures { λ r. ⌜ r ≡ now (self .entry) .places ⌝ }
+        ensures { λ r. ⌜ r ≡ readPlaces (now (self .entry)) ⌝ }
     {
         self.places
     }
 
     pub fn moves(&self) -> u32
-        ensures { λ r. ⌜ r ≡ now (self .entry) .moves ⌝ }
+        ensures { λ r. ⌜ r ≡ readMoves (now (self .entry)) ⌝ }
     {
         self.moves
     }

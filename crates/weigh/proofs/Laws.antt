@@ -10,15 +10,20 @@ use Rattle.std.proofs.shelf.Tests.{cases-eq}
 use Rattle.net.specs.Net.{Net, Fires}
 use Rattle.net.specs.Sums.{sum}
 use Rattle.net.specs.Divisors.{IsUnit, unitOf}
-use Rattle.weigh.specs.Balance.{takenWeight, givenWeight, Balances, FiringKeepsWeighed, FiringKeepsUseful}
+use Rattle.weigh.specs.Balance.{Idle, takenWeight, givenWeight, Balances, FiringKeepsWeighed, FiringKeepsUseful}
 use Rattle.weigh.proofs.Sums.{sum-add, sum-same}
 
--- idle moves balance too: they take and give the same at each place
+-- an idle move takes and gives the same weight
+pub idle-even : (n : Net) (ws : List ℕ) → length ws ≡ n .places → (t : ℕ) → Idle n t → takenWeight n ws t ≡ givenWeight n ws t
+idle-even n ws long t idle =
+    sum-same (length ws) (λ p. getD ws p 0 * n .takes t p) (λ p. getD ws p 0 * n .gives t p)
+      (λ p below. let none = idle p (omega arith) in ap (λ x. getD ws p 0 * x) (none .0 ∙ sym (none .1)))
+
+-- so every move balances
 pub balances-all : (n : Net) (ws : List ℕ) → Balances n ws → (t : ℕ) → t < n .moves → takenWeight n ws t ≡ givenWeight n ws t
 balances-all n ws b t l =
     ⊎-elim (λ same. same)
-      (λ differ. b .1 t l (λ idle. differ (sum-same (length ws) (λ p. getD ws p 0 * n .takes t p) (λ p. getD ws p 0 * n .gives t p)
-        (λ p below. let none = idle p (omega (arith, b .0)) in ap (λ x. getD ws p 0 * x) (none .0 ∙ sym (none .1))))))
+      (λ differ. b .1 t l (λ idle. differ (idle-even n ws (b .0) t idle)))
       (cases-eq (takenWeight n ws t) (givenWeight n ws t))
 
 -- a weighed sum stays, if at each place what a move takes goes and what it gives comes

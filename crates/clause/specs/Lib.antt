@@ -1,0 +1,3 @@
+pub mod Kinds
+pub mod Sets
+pub mod Certificates

@@ -1,0 +1,40 @@
+// How a set of places is made, and which places are in it.
+ghost use mathlib.Core.Path.{_≡_};
+ghost use mathlib.Core.Bool.{false};
+ghost use Prim.Native.Nat.{ℕ, _<_, _≤_};
+ghost use lib.ListN.{length, getD};
+ghost use Rattle.std.specs.Options.{Cases as BySome};
+ghost use Rattle.clause.specs.Sets.{membersOf, memberNumbers, AreMembers};
+use super::PlaceSet;
+
+impl PlaceSet {
+    // The set of the places with a 1; none unless there are 1 to 16 numbers, each 0 or 1.
+    pub fn from_numbers(numbers: &[u16]) -> Option<PlaceSet>
+        ensures { λ r. ⌜ BySome r (AreMembers (now (numbers .entry)) → ⊥) (λ s. AreMembers (now (numbers .entry)) × (memberNumbers s ≡ now (numbers .entry))) ⌝ }
+    {
+        if numbers.len() < 1 || numbers.len() > 16 {
+            return None;
+        }
+        let mut members = [false; 16];
+        for p in 0..numbers.len() {
+            if numbers[p] > 1 {
+                return None;
+            }
+            members[p] = numbers[p] == 1;
+        }
+        Some(PlaceSet { members, len: numbers.len() as u32 })
+    }
+
+    pub fn places(&self) -> u32
+        ensures { λ r. ⌜ r ≡ length (membersOf (now (self .entry))) ⌝ }
+    {
+        self.len
+    }
+
+    // Whether a place is in the set; a place that there is not is in none.
+    pub fn contains(&self, p: u32) -> bool
+        ensures { λ r. ⌜ r ≡ getD (membersOf (now (self .entry))) p false ⌝ }
+    {
+        p < self.len && self.members[p as usize]
+    }
+}
