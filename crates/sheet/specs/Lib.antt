@@ -1,3 +1,5 @@
 pub mod Layout
 pub mod Questions
 pub mod Spelled
+pub mod Stages
+pub mod Agreed

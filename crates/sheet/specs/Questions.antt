@@ -1,11 +1,11 @@
--- The six questions that a sheet is asked, and where it answers no.
+-- The six questions that a sheet is asked, and the spots at which it answers no.
 use mathlib.Core.Path.{_≡_}
 use mathlib.Core.Bool.{false}
-use mathlib.Core.List.{List}
+use mathlib.Core.List.{List, [], _∷_}
 use mathlib.Core.Logic.{_⊎_}
 use Prim.Native.Nat.{ℕ, _+_, _*_, min, _<_}
-use lib.ListN.{length}
-use Rattle.sheet.specs.Layout.{byteAt, word16, word64, placesIn, movesIn, firstCode, secondCode, arcsIn, arcAt, firstAt, secondAt, numberAt, sizeOf}
+use lib.ListN.{length, getD}
+use Rattle.sheet.specs.Layout.{word16, word64, placesIn, movesIn, firstCode, secondCode, arcsIn, arcAt, firstAt, secondAt, numberAt, sizeOf}
 use Rattle.clause.specs.Kinds.{codeOf, lawfulNumber, lawfulCeiling}
 use Rattle.clause.specs.declared.kind.Kind.{Kind}
 
@@ -13,26 +13,48 @@ use Rattle.clause.specs.declared.kind.Kind.{Kind}
 abbrev pub Outside : ℕ → ℕ → ℕ → Type 0
 Outside low high number = (number < low) ⊎ (high < number)
 
--- a ceiling, and a number, that a certificate of this code may not have
-abbrev pub BadCeiling : ℕ → ℕ → Type 0
-BadCeiling code ceiling = (kind : Kind) × (codeOf kind ≡ code) × (lawfulCeiling kind ceiling ≡ false)
+-- 1: there are fewer than 4 bytes
+abbrev pub TooShort : List ℕ → ℕ → Type 0
+TooShort bytes spot = (length bytes < 4) × (spot ≡ length bytes)
 
-abbrev pub BadNumber : ℕ → ℕ → Type 0
-BadNumber code number = (kind : Kind) × (codeOf kind ≡ code) × (lawfulNumber kind number ≡ false)
+-- 2: the number of places is not 1 to 16, or that of moves not 1 to 32
+abbrev pub BadSize : List ℕ → ℕ → Type 0
+BadSize bytes spot = ((spot ≡ 0) × Outside 1 16 (placesIn bytes)) ⊎ ((spot ≡ 1) × Outside 1 32 (movesIn bytes))
+
+-- 3: the first kind is not 1 to 4, or the second not 0 to 4
+abbrev pub BadKind : List ℕ → ℕ → Type 0
+BadKind bytes spot = ((spot ≡ 2) × Outside 1 4 (firstCode bytes)) ⊎ ((spot ≡ 3) × (4 < secondCode bytes))
+
+-- 4: the length is not the one that places and moves ask for
+abbrev pub BadLength : List ℕ → ℕ → Type 0
+BadLength bytes spot = (spot ≡ min (length bytes) (sizeOf bytes)) × (length bytes ≡ sizeOf bytes → ⊥)
+
+-- 5: a take or a give is above 1,000
+abbrev pub BadWeight : List ℕ → ℕ → Type 0
+BadWeight bytes spot = (k : ℕ) × (k < 2 * arcsIn bytes) × (spot ≡ arcAt k) × (1000 < word16 bytes (arcAt k))
+
+-- a ceiling or a number that a certificate with this code and start may not have
+abbrev pub BadCeiling : List ℕ → ℕ → ℕ → ℕ → Type 0
+BadCeiling bytes code start spot = (spot ≡ start) × ((kind : Kind) × (codeOf kind ≡ code) × (lawfulCeiling kind (word64 bytes start) ≡ false))
+
+abbrev pub BadNumber : List ℕ → ℕ → ℕ → ℕ → Type 0
+BadNumber bytes code start spot = (p : ℕ) × (p < placesIn bytes) × (spot ≡ numberAt start p)
+  × ((kind : Kind) × (codeOf kind ≡ code) × (lawfulNumber kind (word16 bytes (numberAt start p)) ≡ false))
+
+abbrev pub BadCertificate : List ℕ → ℕ → ℕ → ℕ → Type 0
+BadCertificate bytes code start spot = BadCeiling bytes code start spot ⊎ BadNumber bytes code start spot
+
+-- 6: a field of a certificate is out of range
+abbrev pub BadField : List ℕ → ℕ → Type 0
+BadField bytes spot = BadCertificate bytes (firstCode bytes) (firstAt bytes) spot ⊎ BadCertificate bytes (secondCode bytes) (secondAt bytes) spot
+
+-- there is no question 0, and none after the last
+abbrev Unasked : List ℕ → ℕ → Type 0
+Unasked bytes spot = ⊥
 
 -- question `asked` gets a no at `spot`
-pub data Wrong (bytes : List ℕ) (asked spot : ℕ) : Type 0 where
-  short : asked ≡ 1 → spot ≡ length bytes → length bytes < 4 → Wrong bytes asked spot
-  places : asked ≡ 2 → spot ≡ 0 → Outside 1 16 (placesIn bytes) → Wrong bytes asked spot
-  moves : asked ≡ 2 → spot ≡ 1 → Outside 1 32 (movesIn bytes) → Wrong bytes asked spot
-  firstKind : asked ≡ 3 → spot ≡ 2 → Outside 1 4 (firstCode bytes) → Wrong bytes asked spot
-  secondKind : asked ≡ 3 → spot ≡ 3 → 4 < secondCode bytes → Wrong bytes asked spot
-  size : asked ≡ 4 → spot ≡ min (length bytes) (sizeOf bytes) → (length bytes ≡ sizeOf bytes → ⊥) → Wrong bytes asked spot
-  weight : (k : ℕ) → asked ≡ 5 → spot ≡ arcAt k → k < 2 * arcsIn bytes → 1000 < word16 bytes (arcAt k) → Wrong bytes asked spot
-  firstCeiling : asked ≡ 6 → spot ≡ firstAt bytes → BadCeiling (firstCode bytes) (word64 bytes (firstAt bytes)) → Wrong bytes asked spot
-  firstNumber : (p : ℕ) → asked ≡ 6 → spot ≡ numberAt (firstAt bytes) p → p < placesIn bytes → BadNumber (firstCode bytes) (word16 bytes (numberAt (firstAt bytes) p)) → Wrong bytes asked spot
-  secondCeiling : asked ≡ 6 → spot ≡ secondAt bytes → BadCeiling (secondCode bytes) (word64 bytes (secondAt bytes)) → Wrong bytes asked spot
-  secondNumber : (p : ℕ) → asked ≡ 6 → spot ≡ numberAt (secondAt bytes) p → p < placesIn bytes → BadNumber (secondCode bytes) (word16 bytes (numberAt (secondAt bytes) p)) → Wrong bytes asked spot
+abbrev pub Wrong : List ℕ → ℕ → ℕ → Type 0
+Wrong bytes asked spot = getD (Unasked ∷ TooShort ∷ BadSize ∷ BadKind ∷ BadLength ∷ BadWeight ∷ BadField ∷ []) asked Unasked bytes spot
 
 -- every question gets a yes
 abbrev pub Lawful : List ℕ → Type 0
@@ -41,5 +63,5 @@ Lawful bytes = (asked spot : ℕ) → Wrong bytes asked spot → ⊥
 -- the first question that gets a no, and the lowest spot at which it does
 pub record FirstWrong (bytes : List ℕ) (asked spot : ℕ) : Type 0 where
   pub wrong : Wrong bytes asked spot
-  pub before : (sooner at : ℕ) → sooner < asked → Wrong bytes sooner at → ⊥
+  pub before : (sooner : ℕ) → sooner < asked → (at : ℕ) → Wrong bytes sooner at → ⊥
   pub lowest : (lower : ℕ) → lower < spot → Wrong bytes asked lower → ⊥

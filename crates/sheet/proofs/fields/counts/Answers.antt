@@ -1,0 +1,3 @@
+use Rattle.sheet.proofs.fields.counts.Needs as need
+pub returns : need.returns
+returns c = ?
