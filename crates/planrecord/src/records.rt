@@ -41,7 +41,7 @@ pub struct PlanRecord {
 }
 
 // Why there is no record: the sheet is refused, or there is no memory.
-#[derive(Clone, Copy, PartialEq, Eq, Debug)]
+#[derive(Clone, Copy)]
 pub enum DescribeError {
     Refused(Refusal),
     NoMemory,

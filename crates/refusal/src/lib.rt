@@ -2,6 +2,7 @@
 mod answers;
 mod refusals;
 
+pub use answers::RefusalDisplay;
 pub use refusals::Layer;
 pub use refusals::Refusal;
 pub use refusals::SheetRefusal;

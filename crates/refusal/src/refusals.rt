@@ -1,11 +1,14 @@
 // The layer that found what is wrong.
-#[derive(Clone, Copy, PartialEq, Eq, Debug)]
+#[derive(Clone, Copy)]
 pub enum Layer {
     Sheet,
+    Opening,
+    Run,
+    Tape,
 }
 
 // What is wrong with the bytes of a sheet. An offset is that of the wrong field.
-#[derive(Clone, Copy, PartialEq, Eq, Debug)]
+#[derive(Clone, Copy)]
 pub enum SheetRefusal {
     // there are fewer than 4 bytes
     Short { length: u32 },
@@ -21,7 +24,7 @@ pub enum SheetRefusal {
     Field { offset: u32 },
 }
 
-#[derive(Clone, Copy, PartialEq, Eq, Debug)]
+#[derive(Clone, Copy)]
 pub enum Refusal {
     Sheet(SheetRefusal),
 }

@@ -1,5 +1,5 @@
 // What comes of weighing the moves of a plan.
-#[derive(Clone, Copy, PartialEq, Eq, Debug)]
+#[derive(Clone, Copy)]
 pub enum Balance {
     // every move takes and gives the same weight
     Even,
