@@ -11,6 +11,7 @@ fn answer(bytes: &[u8]) -> (u32, u32, u32) {
 }
 
 // A 16-bit number written into a sheet, with the number and spot of the answer.
+#[derive(Clone, Copy)]
 struct Case {
     at: usize,
     value: u16,

@@ -1,3 +1,4 @@
 pub mod Asked
 pub mod Fills
 pub mod Slices
+pub mod Agreeing
