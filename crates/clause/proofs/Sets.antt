@@ -20,8 +20,8 @@ number-back n small = grind (arith, tells)
 
 -- one number more is read
 pub numbers-more : (ns : List ℕ) (members : List Bool) (p : ℕ) → p < length ns → p < length members → getD ns p 0 ≤ 1
-  → map memberNumber (take p members) ≡ take p ns
-  → map memberNumber (take (p + 1) (set members p (eqb (getD ns p 0) 1))) ≡ take (p + 1) ns
+    → map memberNumber (take p members) ≡ take p ns
+    → map memberNumber (take (p + 1) (set members p (eqb (getD ns p 0) 1))) ≡ take (p + 1) ns
 numbers-more ns members p inside room small before =
     let n = getD ns p 0 in
     ap (map memberNumber) (take-more-set members p (eqb n 1) room)
@@ -40,6 +40,6 @@ pub number-at : (places : PlaceSet) (p : ℕ) → boolByte (getD (membersOf plac
 number-at places p =
     let ms = membersOf places in
     ⊎-elim
-      (λ inside. byte-number (getD ms p false) ∙ sym (getD-map memberNumber ms p false 0 inside))
-      (λ past. ap boolByte (getD-past ms p false past) ∙ sym (getD-past (memberNumbers places) p 0 (simp length-map past)))
-      (cases-lt p (length ms))
+    (λ inside. byte-number (getD ms p false) ∙ sym (getD-map memberNumber ms p false 0 inside))
+    (λ past. ap boolByte (getD-past ms p false past) ∙ sym (getD-past (memberNumbers places) p 0 (simp length-map past)))
+    (cases-lt p (length ms))

@@ -35,10 +35,19 @@ impl Certificate {
                 Some(_) => None,
                 None => Some(Certificate::Blank),
             },
-            Kind::Ceiling => Some(Certificate::Ceiling { weighing: Weighing::new(numbers)?, ceiling }),
-            Kind::NeverStuck => Some(Certificate::NeverStuck { weighing: Weighing::new(numbers)? }),
-            Kind::DeadSet => Some(Certificate::DeadSet { set: PlaceSet::from_numbers(numbers)? }),
-            Kind::KeptSet => Some(Certificate::KeptSet { set: PlaceSet::from_numbers(numbers)? }),
+            Kind::Ceiling => Some(Certificate::Ceiling {
+                weighing: Weighing::new(numbers)?,
+                ceiling,
+            }),
+            Kind::NeverStuck => Some(Certificate::NeverStuck {
+                weighing: Weighing::new(numbers)?,
+            }),
+            Kind::DeadSet => Some(Certificate::DeadSet {
+                set: PlaceSet::from_numbers(numbers)?,
+            }),
+            Kind::KeptSet => Some(Certificate::KeptSet {
+                set: PlaceSet::from_numbers(numbers)?,
+            }),
         }
     }
 

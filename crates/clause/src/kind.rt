@@ -5,6 +5,7 @@ ghost use Prim.Native.Nat.{ℕ, _<_};
 ghost use lib.ListN.{length, getD};
 ghost use Rattle.std.specs.Options.{Cases as BySome};
 ghost use Rattle.clause.specs.Kinds.{codeOf, lawfulNumber, lawfulCeiling};
+use weigh::MOST_WEIGHT;
 
 #[derive(Clone, Copy)]
 pub enum Kind {
@@ -47,7 +48,7 @@ impl Kind {
         ensures { λ r. ⌜ r ≡ lawfulNumber self number ⌝ }
     {
         match (self, number) {
-            (Kind::Ceiling | Kind::NeverStuck, n) if n >= 1 && n <= 1000 => true,
+            (Kind::Ceiling | Kind::NeverStuck, n) if n >= 1 && n <= MOST_WEIGHT => true,
             (Kind::DeadSet | Kind::KeptSet, 0..=1) => true,
             (Kind::Blank, 0) => true,
             _ => false,
@@ -64,7 +65,7 @@ impl Kind {
         }
     }
 
-    // The lowest place whose number this kind does not admit.
+    // The index of the first number that this kind does not admit.
     pub fn first_refused(self, numbers: &[u16]) -> Option<usize>
         ensures { λ r. ⌜ BySome r ((p : ℕ) → p < length (now (numbers .entry)) → lawfulNumber self (getD (now (numbers .entry)) p 0) ≡ true) (λ p. (p < length (now (numbers .entry))) × (lawfulNumber self (getD (now (numbers .entry)) p 0) ≡ false) × ((k : ℕ) → k < p → lawfulNumber self (getD (now (numbers .entry)) k 0) ≡ true)) ⌝ }
     {

@@ -43,9 +43,9 @@ arc-past width rows t p h = cond-false (ltb p width) _ _ (le-ltb p width h)
 pub arc-none : (width height : ℕ) (rows : List ℕ) → ((k : ℕ) → height * width ≤ k → getD rows k 0 ≡ 0) → (t p : ℕ) → height ≤ t → arcAt width rows t p ≡ 0
 arc-none width height rows blank t p h =
     ⊎-elim
-      (λ inside. arc-in width rows t p inside ∙ blank (t * width + p) (let le : height * width ≤ t * width = mul-le-mul-right width h in omega arith))
-      (arc-past width rows t p)
-      (cases-lt p width)
+    (λ inside. arc-in width rows t p inside ∙ blank (t * width + p) (let le : height * width ≤ t * width = mul-le-mul-right width h in omega arith))
+    (arc-past width rows t p)
+    (cases-lt p width)
 
 -- rows with the same numbers have the same arcs
 pub same-arcs : (width : ℕ) (rows rows' : List ℕ) → ((k : ℕ) → getD rows k 0 ≡ getD rows' k 0) → (t p : ℕ) → arcAt width rows t p ≡ arcAt width rows' t p
@@ -60,6 +60,6 @@ row-entry width rows row t p long reads =
 pub arc-light : (width : ℕ) (rows : List ℕ) (most : ℕ) → ((k : ℕ) → getD rows k 0 ≤ most) → (t p : ℕ) → arcAt width rows t p ≤ most
 arc-light width rows most light t p =
     ⊎-elim
-      (λ inside. let e = arc-in width rows t p inside in let l = light (t * width + p) in omega arith)
-      (λ past. let e = arc-past width rows t p past in omega arith)
-      (cases-lt p width)
+    (λ inside. let e = arc-in width rows t p inside in let l = light (t * width + p) in omega arith)
+    (λ past. let e = arc-past width rows t p past in omega arith)
+    (cases-lt p width)

@@ -4,8 +4,8 @@ mod plan;
 mod read_plan;
 
 pub use counts::Counts;
+pub use plan::MOST_ARC_WEIGHT;
 pub use plan::MOST_MOVES;
 pub use plan::MOST_PLACES;
-pub use plan::MOST_WEIGHT;
 pub use plan::Plan;
 pub use read_plan::ReadPlan;

@@ -9,11 +9,13 @@ mod units;
 
 // The most places and moves that a plan can have, and the largest weight of an arc.
 pub const MOST_PLACES: u32 = 16;
+
 pub const MOST_MOVES: u32 = 32;
-pub const MOST_WEIGHT: u16 = 1000;
+
+pub const MOST_ARC_WEIGHT: u16 = 1000;
 
 // A plan (a weighted Petri net). `takes` and `gives` lie move by move and place by place; what is past the last move is 0.
-#[derive(Clone, Copy)]
+#[derive(Drop)]
 pub struct Plan {
     places: u32,
     moves: u32,

@@ -16,7 +16,10 @@ impl ReadPlan {
         ensures places { λ r. ⌜ readPlaces r ≡ net (now (plan .entry)) .places ⌝ }
         ensures moves { λ r. ⌜ readMoves r ≡ net (now (plan .entry)) .moves ⌝ }
     {
-        ReadPlan { places: plan.places(), moves: plan.moves() }
+        ReadPlan {
+            places: plan.places(),
+            moves: plan.moves(),
+        }
     }
 
     pub fn places(&self) -> u32

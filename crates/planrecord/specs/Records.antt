@@ -11,7 +11,7 @@ use Rattle.std.specs.declared.result.Result.{Result}
 use Rattle.std.specs.declared.result.Result.the-variants.{Ok, Err}
 use Rattle.net.specs.Net.{Net}
 use Rattle.net.specs.Divisors.{unitOf}
-use Rattle.net.specs.Takes.{NoTaker, leastTake, largestTake}
+use Rattle.net.specs.Takes.{NoTaker, IsLeastTake, IsLargestTake}
 use Rattle.net.specs.Fed.{IsFedWord, fedMoves}
 use Rattle.net.specs.Model.{net}
 use Rattle.net.specs.Marking.{marking}
@@ -37,8 +37,8 @@ use Rattle.planrecord.specs.declared.records.DescribeError.the-variants.{Refus
 pub record DescribesPlace (n : Net) (m : List ℕ) (p : ℕ) (place : PlaceRecord) : Type 0 where
   pub count : place .count ≡ getD m p 0
   pub unit : place .unit ≡ unitOf n p
-  pub least : BySome (place .least) (NoTaker n p) (λ number. number ≡ leastTake n p)
-  pub largest : BySome (place .largest) (NoTaker n p) (λ number. number ≡ largestTake n p)
+  pub least : BySome (place .least) (NoTaker n p) (IsLeastTake n p)
+  pub largest : BySome (place .largest) (NoTaker n p) (IsLargestTake n p)
 
 -- what is recorded of a weighing
 pub record DescribesWeighing (n : Net) (m ws : List ℕ) (weighing : WeighingRecord) : Type 0 where

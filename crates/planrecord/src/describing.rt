@@ -45,7 +45,10 @@ fn place_records(heap: Global, plan: &Plan, counts: &Counts) -> Result<Vec<Place
 fn weighing_record(plan: &Plan, counts: &Counts, weighing: &Weighing) -> WeighingRecord
     ensures { λ r. ⌜ DescribesWeighing (net (now (plan .entry))) (marking (now (counts .entry))) (weightsOf (now (weighing .entry))) r ⌝ }
 {
-    WeighingRecord { balance: weighing.balance(plan), sum: weighing.weighed_sum(counts) }
+    WeighingRecord {
+        balance: weighing.balance(plan),
+        sum: weighing.weighed_sum(counts),
+    }
 }
 
 fn certificate_record(plan: &Plan, counts: &Counts, certificate: Certificate) -> CertificateRecord
@@ -53,18 +56,30 @@ fn certificate_record(plan: &Plan, counts: &Counts, certificate: Certificate) ->
     ensures weighing { λ r. ⌜ DescribesCertificate (net (now (plan .entry))) (marking (now (counts .entry))) r ⌝ }
 {
     let weighing = match certificate {
-        Certificate::Ceiling { weighing, ceiling: _ } => Some(weighing_record(plan, counts, &weighing)),
+        Certificate::Ceiling {
+            weighing,
+            ceiling: _,
+        } => Some(weighing_record(plan, counts, &weighing)),
         Certificate::NeverStuck { weighing } => Some(weighing_record(plan, counts, &weighing)),
         Certificate::Blank | Certificate::DeadSet { .. } | Certificate::KeptSet { .. } => None,
     };
-    CertificateRecord { certificate, weighing }
+    CertificateRecord {
+        certificate,
+        weighing,
+    }
 }
 
 // The record of the sheet that the bytes spell, or why there is none.
 pub fn describe(heap: Global, bytes: &[u8]) -> Result<PlanRecord, DescribeError>
     ensures { λ r. ⌜ IsDescription (now (bytes .entry)) r ⌝ }
 {
-    let Sheet { state: _, plan, counts, first, second } = match sheet::read(bytes) {
+    let Sheet {
+        state: _,
+        plan,
+        counts,
+        first,
+        second,
+    } = match sheet::read(bytes) {
         Ok(sheet) => sheet,
         Err(refusal) => return Err(DescribeError::Refused(refusal)),
     };

@@ -9,7 +9,11 @@ use std::fmt;
 use weigh::Balance;
 use weigh::Weighing;
 
-fn write_place<W: fmt::Write>(f: &mut fmt::Formatter<W>, p: usize, place: &PlaceRecord) -> fmt::Result {
+fn write_place<W: fmt::Write>(
+    f: &mut fmt::Formatter<W>,
+    p: usize,
+    place: &PlaceRecord,
+) -> fmt::Result {
     let count = place.count;
     let unit = place.unit;
     write!(f, "place {p}: count {count}, unit {unit}, ")?;
@@ -51,20 +55,37 @@ fn write_set<W: fmt::Write>(f: &mut fmt::Formatter<W>, set: &PlaceSet) -> fmt::R
             any = true;
         }
     }
-    if any { writeln!(f) } else { writeln!(f, " none") }
+    if any {
+        writeln!(f)
+    } else {
+        writeln!(f, " none")
+    }
 }
 
-fn write_weighing<W: fmt::Write>(f: &mut fmt::Formatter<W>, weighing: &WeighingRecord) -> fmt::Result {
+fn write_weighing<W: fmt::Write>(
+    f: &mut fmt::Formatter<W>,
+    weighing: &WeighingRecord,
+) -> fmt::Result {
     match weighing.balance {
         Balance::Even => writeln!(f, "  balances the plan: yes")?,
-        Balance::OtherPlaces => writeln!(f, "  balances the plan: no, it has another number of places")?,
-        Balance::Uneven(t) => writeln!(f, "  balances the plan: no, move {t} takes another weight than it gives")?,
+        Balance::OtherPlaces => writeln!(
+            f,
+            "  balances the plan: no, it has another number of places"
+        )?,
+        Balance::Uneven(t) => writeln!(
+            f,
+            "  balances the plan: no, move {t} takes another weight than it gives"
+        )?,
     }
     let sum = weighing.sum;
     writeln!(f, "  weighed sum: {sum}")
 }
 
-fn write_certificate<W: fmt::Write>(f: &mut fmt::Formatter<W>, slot: u32, shown: &CertificateRecord) -> fmt::Result {
+fn write_certificate<W: fmt::Write>(
+    f: &mut fmt::Formatter<W>,
+    slot: u32,
+    shown: &CertificateRecord,
+) -> fmt::Result {
     write!(f, "certificate {slot}: ")?;
     match &shown.certificate {
         Certificate::Blank => writeln!(f, "blank")?,
@@ -101,7 +122,11 @@ impl PlanRecord {
         if let Some(gives) = self.plan.gives_of(t) {
             write_row(f, gives)?;
         }
-        if self.shows_fed(t) { writeln!(f, "; fed") } else { writeln!(f) }
+        if self.shows_fed(t) {
+            writeln!(f, "; fed")
+        } else {
+            writeln!(f)
+        }
     }
 
     // The bit of move t in the fed word.

@@ -46,19 +46,84 @@ fn lengths() -> Result<(), Fail> {
 #[test]
 fn headers() -> Result<(), Fail> {
     let cases = [
-        Case { at: 0, value: 0x0300, number: 2, spot: 0 },
-        Case { at: 0, value: 0x0311, number: 2, spot: 0 },
-        Case { at: 0, value: 0x0002, number: 2, spot: 1 },
-        Case { at: 0, value: 0x2102, number: 2, spot: 1 },
-        Case { at: 0, value: 0x0000, number: 2, spot: 0 },
-        Case { at: 0, value: 0x0301, number: 4, spot: 40 },
-        Case { at: 0, value: 0x0303, number: 4, spot: 60 },
-        Case { at: 2, value: 0x0100, number: 3, spot: 2 },
-        Case { at: 2, value: 0x0105, number: 3, spot: 2 },
-        Case { at: 2, value: 0x0502, number: 3, spot: 3 },
-        Case { at: 2, value: 0x0500, number: 3, spot: 2 },
-        Case { at: 2, value: 0x0002, number: 6, spot: 48 },
-        Case { at: 2, value: 0x0102, number: 0, spot: 0 },
+        Case {
+            at: 0,
+            value: 0x0300,
+            number: 2,
+            spot: 0,
+        },
+        Case {
+            at: 0,
+            value: 0x0311,
+            number: 2,
+            spot: 0,
+        },
+        Case {
+            at: 0,
+            value: 0x0002,
+            number: 2,
+            spot: 1,
+        },
+        Case {
+            at: 0,
+            value: 0x2102,
+            number: 2,
+            spot: 1,
+        },
+        Case {
+            at: 0,
+            value: 0x0000,
+            number: 2,
+            spot: 0,
+        },
+        Case {
+            at: 0,
+            value: 0x0301,
+            number: 4,
+            spot: 40,
+        },
+        Case {
+            at: 0,
+            value: 0x0303,
+            number: 4,
+            spot: 60,
+        },
+        Case {
+            at: 2,
+            value: 0x0100,
+            number: 3,
+            spot: 2,
+        },
+        Case {
+            at: 2,
+            value: 0x0105,
+            number: 3,
+            spot: 2,
+        },
+        Case {
+            at: 2,
+            value: 0x0502,
+            number: 3,
+            spot: 3,
+        },
+        Case {
+            at: 2,
+            value: 0x0500,
+            number: 3,
+            spot: 2,
+        },
+        Case {
+            at: 2,
+            value: 0x0002,
+            number: 6,
+            spot: 48,
+        },
+        Case {
+            at: 2,
+            value: 0x0102,
+            number: 0,
+            spot: 0,
+        },
     ];
     for case in &cases {
         let mut bytes = THREE_MOVES;
@@ -70,13 +135,48 @@ fn headers() -> Result<(), Fail> {
 #[test]
 fn takes_and_gives() -> Result<(), Fail> {
     let cases = [
-        Case { at: 4, value: 1000, number: 0, spot: 0 },
-        Case { at: 4, value: 1001, number: 5, spot: 4 },
-        Case { at: 8, value: 1001, number: 5, spot: 8 },
-        Case { at: 14, value: 1001, number: 5, spot: 14 },
-        Case { at: 16, value: 1001, number: 5, spot: 16 },
-        Case { at: 26, value: 1000, number: 0, spot: 0 },
-        Case { at: 26, value: 65535, number: 5, spot: 26 },
+        Case {
+            at: 4,
+            value: 1000,
+            number: 0,
+            spot: 0,
+        },
+        Case {
+            at: 4,
+            value: 1001,
+            number: 5,
+            spot: 4,
+        },
+        Case {
+            at: 8,
+            value: 1001,
+            number: 5,
+            spot: 8,
+        },
+        Case {
+            at: 14,
+            value: 1001,
+            number: 5,
+            spot: 14,
+        },
+        Case {
+            at: 16,
+            value: 1001,
+            number: 5,
+            spot: 16,
+        },
+        Case {
+            at: 26,
+            value: 1000,
+            number: 0,
+            spot: 0,
+        },
+        Case {
+            at: 26,
+            value: 65535,
+            number: 5,
+            spot: 26,
+        },
     ];
     for case in &cases {
         let mut bytes = THREE_MOVES;
@@ -89,25 +189,105 @@ fn takes_and_gives() -> Result<(), Fail> {
 #[test]
 fn lower_offsets_first() -> Result<(), Fail> {
     let mut bytes = THREE_MOVES;
-    checked(&mut bytes, &Case { at: 58, value: 1001, number: 6, spot: 58 })?;
-    checked(&mut bytes, &Case { at: 44, value: 0, number: 6, spot: 44 })?;
-    checked(&mut bytes, &Case { at: 36, value: 1, number: 6, spot: 36 })?;
-    checked(&mut bytes, &Case { at: 16, value: 1001, number: 5, spot: 16 })?;
-    checked(&mut bytes, &Case { at: 8, value: 1001, number: 5, spot: 8 })
+    checked(
+        &mut bytes,
+        &Case {
+            at: 58,
+            value: 1001,
+            number: 6,
+            spot: 58,
+        },
+    )?;
+    checked(
+        &mut bytes,
+        &Case {
+            at: 44,
+            value: 0,
+            number: 6,
+            spot: 44,
+        },
+    )?;
+    checked(
+        &mut bytes,
+        &Case {
+            at: 36,
+            value: 1,
+            number: 6,
+            spot: 36,
+        },
+    )?;
+    checked(
+        &mut bytes,
+        &Case {
+            at: 16,
+            value: 1001,
+            number: 5,
+            spot: 16,
+        },
+    )?;
+    checked(
+        &mut bytes,
+        &Case {
+            at: 8,
+            value: 1001,
+            number: 5,
+            spot: 8,
+        },
+    )
 }
 
 // The weights of the first certificate stand at 44 and 46, its ceiling at 36; those of the second at 56 and 58, and at 48.
 #[test]
 fn weights_and_ceilings() -> Result<(), Fail> {
     let cases = [
-        Case { at: 44, value: 0, number: 6, spot: 44 },
-        Case { at: 46, value: 1000, number: 0, spot: 0 },
-        Case { at: 46, value: 1001, number: 6, spot: 46 },
-        Case { at: 36, value: 1, number: 6, spot: 36 },
-        Case { at: 42, value: 256, number: 6, spot: 36 },
-        Case { at: 48, value: 65535, number: 0, spot: 0 },
-        Case { at: 56, value: 0, number: 6, spot: 56 },
-        Case { at: 58, value: 1001, number: 6, spot: 58 },
+        Case {
+            at: 44,
+            value: 0,
+            number: 6,
+            spot: 44,
+        },
+        Case {
+            at: 46,
+            value: 1000,
+            number: 0,
+            spot: 0,
+        },
+        Case {
+            at: 46,
+            value: 1001,
+            number: 6,
+            spot: 46,
+        },
+        Case {
+            at: 36,
+            value: 1,
+            number: 6,
+            spot: 36,
+        },
+        Case {
+            at: 42,
+            value: 256,
+            number: 6,
+            spot: 36,
+        },
+        Case {
+            at: 48,
+            value: 65535,
+            number: 0,
+            spot: 0,
+        },
+        Case {
+            at: 56,
+            value: 0,
+            number: 6,
+            spot: 56,
+        },
+        Case {
+            at: 58,
+            value: 1001,
+            number: 6,
+            spot: 58,
+        },
     ];
     for case in &cases {
         let mut bytes = THREE_MOVES;
@@ -120,12 +300,42 @@ fn weights_and_ceilings() -> Result<(), Fail> {
 #[test]
 fn sets_and_blanks() -> Result<(), Fail> {
     let cases = [
-        Case { at: 36, value: 0, number: 0, spot: 0 },
-        Case { at: 38, value: 2, number: 6, spot: 38 },
-        Case { at: 28, value: 1, number: 6, spot: 28 },
-        Case { at: 40, value: 1, number: 6, spot: 40 },
-        Case { at: 48, value: 1, number: 6, spot: 48 },
-        Case { at: 50, value: 1, number: 6, spot: 50 },
+        Case {
+            at: 36,
+            value: 0,
+            number: 0,
+            spot: 0,
+        },
+        Case {
+            at: 38,
+            value: 2,
+            number: 6,
+            spot: 38,
+        },
+        Case {
+            at: 28,
+            value: 1,
+            number: 6,
+            spot: 28,
+        },
+        Case {
+            at: 40,
+            value: 1,
+            number: 6,
+            spot: 40,
+        },
+        Case {
+            at: 48,
+            value: 1,
+            number: 6,
+            spot: 48,
+        },
+        Case {
+            at: 50,
+            value: 1,
+            number: 6,
+            spot: 50,
+        },
     ];
     for case in &cases {
         let mut bytes = TWO_MOVES;

@@ -1,7 +1,7 @@
 use crate::sheets::THREE_MOVES;
+use planrecord::DescribeError;
 use planrecord::Dot;
 use planrecord::DotDisplay;
-use planrecord::DescribeError;
 use refusal::RefusalDisplay;
 use std::test::*;
 

@@ -48,7 +48,7 @@ none-wrong bytes {a} {s} lawful first = lawful a s (first .wrong)
 
 -- numbers that are spelled by the same words are the same
 same-words : (n : ℕ) (word : ℕ → ℕ) (xs ys : List ℕ) → length xs ≡ n → length ys ≡ n
-  → ((p : ℕ) → p < n → getD xs p 0 ≡ word p) → ((p : ℕ) → p < n → getD ys p 0 ≡ word p) → xs ≡ ys
+    → ((p : ℕ) → p < n → getD xs p 0 ≡ word p) → ((p : ℕ) → p < n → getD ys p 0 ≡ word p) → xs ≡ ys
 same-words n word xs ys long long' reads reads' =
     ext-getD 0 xs ys (long ∙ sym long') (λ p h. let inside : p < n = omega arith in reads p inside ∙ sym (reads' p inside))
 
@@ -62,13 +62,13 @@ same-arcs : {moves places : ℕ} {word f g : ℕ → ℕ → ℕ} → Arcs moves
 same-arcs {moves} {places} {f} {g} one other t p =
     let neither : (moves ≤ t) ⊎ (places ≤ p) → f t p ≡ g t p = λ past. one .beyond t p past ∙ sym (other .beyond t p past) in
     ⊎-elim
-      (λ moved. ⊎-elim (λ placed. one .inside t p moved placed ∙ sym (other .inside t p moved placed)) (λ past. neither (inr past)) (cases-lt p places))
-      (λ past. neither (inl past))
-      (cases-lt t moves)
+    (λ moved. ⊎-elim (λ placed. one .inside t p moved placed ∙ sym (other .inside t p moved placed)) (λ past. neither (inr past)) (cases-lt p places))
+    (λ past. neither (inl past))
+    (cases-lt t moves)
 
 -- rows that are 0 past the last one have such arcs
 row-arcs : (width height : ℕ) (rows : List ℕ) {moves places : ℕ} {word : ℕ → ℕ → ℕ} → width ≡ places → height ≡ moves → ((k : ℕ) → height * width ≤ k → getD rows k 0 ≡ 0)
-  → ((t p : ℕ) → t < moves → p < places → arcAt width rows t p ≡ word t p) → Arcs moves places word (arcAt width rows)
+    → ((t p : ℕ) → t < moves → p < places → arcAt width rows t p ≡ word t p) → Arcs moves places word (arcAt width rows)
 row-arcs width height rows wide high blank reads = record {
   inside = reads;
   beyond = λ t p. ⊎-elim (λ past. arc-none width height rows blank t p (omega arith)) (λ past. arc-past width rows t p (omega arith));
@@ -110,12 +110,12 @@ module _ (bytes : List ℕ) where
   same-certificates : (code start : ℕ) (one other : Certificate) → SpellsCertificate bytes code start (valuesOf one) → SpellsCertificate bytes code start (valuesOf other) → valuesOf one ≡ valuesOf other
   same-certificates code start one other s s' =
       same-parts (valuesOf one) (valuesOf other)
-        (same-code (valuesOf one .kind) (valuesOf other .kind) (s .kind ∙ sym (s' .kind)))
-        (s .ceiling ∙ sym (s' .ceiling))
-        (⊎-elim
-          (λ blank. blank-numbers one (s .kind ∙ blank) ∙ sym (blank-numbers other (s' .kind ∙ blank)))
-          (λ used. same-words (placesIn bytes) (λ p. word16 bytes (numberAt start p)) (valuesOf one .numbers) (valuesOf other .numbers) (s .size used) (s' .size used) (s .numbers) (s' .numbers))
-          (cases-eq code 0))
+      (same-code (valuesOf one .kind) (valuesOf other .kind) (s .kind ∙ sym (s' .kind)))
+      (s .ceiling ∙ sym (s' .ceiling))
+      (⊎-elim
+      (λ blank. blank-numbers one (s .kind ∙ blank) ∙ sym (blank-numbers other (s' .kind ∙ blank)))
+      (λ used. same-words (placesIn bytes) (λ p. word16 bytes (numberAt start p)) (valuesOf one .numbers) (valuesOf other .numbers) (s .size used) (s' .size used) (s .numbers) (s' .numbers))
+      (cases-eq code 0))
 
   -- one sheet
   same-sheets : (one other : Sheet) → Spells bytes one → Spells bytes other → SameSheet one other

@@ -91,18 +91,18 @@ module _ (bytes : List ℕ) where
   pub all-passed : Passed bytes 7 → Lawful bytes
   all-passed passed asked spot =
       ⊎-elim
-        (λ early. passed asked early spot)
-        (λ late w. let e : asked ≡ suc (suc (suc (suc (suc (suc (suc (asked - 7))))))) = omega arith in subst (λ a. Wrong bytes a spot) e w)
-        (cases-lt asked 7)
+      (λ early. passed asked early spot)
+      (λ late w. let e : asked ≡ suc (suc (suc (suc (suc (suc (suc (asked - 7))))))) = omega arith in subst (λ a. Wrong bytes a spot) e w)
+      (cases-lt asked 7)
 
 -- no field is bad at a spot where the ceiling is lawful, and so is the number if there is one
 not-bad : (bytes : List ℕ) (kind : Kind) {code : ℕ} (start spot : ℕ) → codeOf kind ≡ code → lawfulCeiling kind (word64 bytes start) ≡ true
-  → ((p : ℕ) → p < placesIn bytes → spot ≡ numberAt start p → lawfulNumber kind (word16 bytes (numberAt start p)) ≡ true)
-  → BadCertificate bytes code start spot → ⊥
+    → ((p : ℕ) → p < placesIn bytes → spot ≡ numberAt start p → lawfulNumber kind (word16 bytes (numberAt start p)) ≡ true)
+    → BadCertificate bytes code start spot → ⊥
 not-bad bytes kind start spot is top numbers =
     ⊎-elim
-      (λ w. passes (λ k. lawfulCeiling k (word64 bytes start)) kind is top (w .1))
-      (λ w. passes (λ k. lawfulNumber k (word16 bytes (numberAt start (w .0)))) kind is (numbers (w .0) (w .1) (w .2)) (w .3))
+    (λ w. passes (λ k. lawfulCeiling k (word64 bytes start)) kind is top (w .1))
+    (λ w. passes (λ k. lawfulNumber k (word16 bytes (numberAt start (w .0)))) kind is (numbers (w .0) (w .1) (w .2)) (w .3))
 
 -- the fields of one certificate
 module _ {bytes : List ℕ} {kind : Kind} {code start : ℕ} (is : codeOf kind ≡ code) where
@@ -148,8 +148,8 @@ module _ {bytes : List ℕ} {header : Header} (h : HeaderRead bytes header) wher
         wrong = inl bad;
         before = light-passed light;
         lowest = λ lower below. ⊎-elim
-          (none-below (h .first) f lower below)
-          (λ w. omega (arith, bad-within bytes (secondCode bytes) (secondAt bytes) lower w .0));
+            (none-below (h .first) f lower below)
+            (λ w. omega (arith, bad-within bytes (secondCode bytes) (secondAt bytes) lower w .0));
       }
 
   -- and that of the second, where the first is lawful

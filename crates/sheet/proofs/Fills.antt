@@ -14,6 +14,7 @@ Filled n f k words = (length words ≡ n) × ((j : ℕ) → j < k → getD words
 
 pub filled-more : (n : ℕ) (f : ℕ → ℕ) (k value : ℕ) (words : List ℕ) → k < n → value ≡ f k → Filled n f k words → Filled n f (k + 1) (set words k value)
 filled-more n f k value words within is filled =
-    let small : k < length words = omega (arith, filled .0) in
-    (simp length-set (filled .0),
-     below-more _ _ (λ j h. let ne : j ≢ k = omega arith in rw getD-set-other (filled .1 j h)) (rw getD-set-same is))
+    let small : k < length words = omega (arith, filled .0) in (
+      simp length-set (filled .0),
+      below-more _ _ (λ j h. let ne : j ≢ k = omega arith in rw getD-set-other (filled .1 j h)) (rw getD-set-same is),
+    )

@@ -39,7 +39,7 @@ BadCeiling bytes code start spot = (spot ≡ start) × ((kind : Kind) × (codeOf
 
 abbrev pub BadNumber : List ℕ → ℕ → ℕ → ℕ → Type 0
 BadNumber bytes code start spot = (p : ℕ) × (p < placesIn bytes) × (spot ≡ numberAt start p)
-  × ((kind : Kind) × (codeOf kind ≡ code) × (lawfulNumber kind (word16 bytes (numberAt start p)) ≡ false))
+    × ((kind : Kind) × (codeOf kind ≡ code) × (lawfulNumber kind (word16 bytes (numberAt start p)) ≡ false))
 
 abbrev pub BadCertificate : List ℕ → ℕ → ℕ → ℕ → Type 0
 BadCertificate bytes code start spot = BadCeiling bytes code start spot ⊎ BadNumber bytes code start spot

@@ -50,5 +50,5 @@ pub record FieldsLawful (bytes : List ℕ) (kind : Kind) (start : ℕ) : Type 0 
 pub data FirstUnlawful (bytes : List ℕ) (kind : Kind) (start offset : ℕ) : Type 0 where
   ceiling : offset ≡ start → lawfulCeiling kind (word64 bytes start) ≡ false → FirstUnlawful bytes kind start offset
   number : (p : ℕ) → offset ≡ numberAt start p → p < placesIn bytes → lawfulNumber kind (word16 bytes (numberAt start p)) ≡ false
-    → lawfulCeiling kind (word64 bytes start) ≡ true → ((k : ℕ) → k < p → lawfulNumber kind (word16 bytes (numberAt start k)) ≡ true)
-    → FirstUnlawful bytes kind start offset
+      → lawfulCeiling kind (word64 bytes start) ≡ true → ((k : ℕ) → k < p → lawfulNumber kind (word16 bytes (numberAt start k)) ≡ true)
+      → FirstUnlawful bytes kind start offset

@@ -8,8 +8,7 @@ ghost use Rattle.net.specs.Model.{net};
 ghost use Rattle.net.specs.Marking.{marking};
 ghost use Rattle.clause.specs.Kinds.{codeOf};
 ghost use Rattle.clause.specs.Certificates.{valuesOf};
-ghost use Rattle.refusal.specs.Refusals.{answerOfSheet};
-ghost use Rattle.sheet.specs.Layout.{placesIn, firstAt, countAt};
+ghost use Rattle.sheet.specs.Layout.{placesIn};
 ghost use Rattle.sheet.specs.Spelled.{SpellsNet, SpellsCounts, SpellsCertificate};
 ghost use Rattle.sheet.specs.Stages.{HeaderRead, ArcsLight, FirstHeavy, FieldsLawful, FirstUnlawful};
 use crate::header::Header;
@@ -17,16 +16,15 @@ use crate::words;
 use clause::Certificate;
 use clause::Kind;
 use net::Counts;
-use net::MOST_WEIGHT;
+use net::MOST_ARC_WEIGHT;
 use net::Plan;
-use refusal::SheetRefusal;
 
 // The index of the first number that is too large for a take or a give.
 fn first_heavy(rows: &[u16]) -> Option<usize>
     ensures { λ r. ⌜ BySome r ((k : ℕ) → k < length (now (rows .entry)) → getD (now (rows .entry)) k 0 ≤ 1000) (λ i. (i < length (now (rows .entry))) × (1000 < getD (now (rows .entry)) i 0) × ((k : ℕ) → k < i → getD (now (rows .entry)) k 0 ≤ 1000)) ⌝ }
 {
     for i in 0..rows.len() {
-        if rows[i] > MOST_WEIGHT {
+        if rows[i] > MOST_ARC_WEIGHT {
             return Some(i);
         }
     }
@@ -69,7 +67,12 @@ pub(crate) fn counts(bytes: &[u8], header: &Header) -> Counts
 }
 
 // The certificate that starts here, or the offset of its first field that is out of range.
-pub(crate) fn certificate(bytes: &[u8], places: u32, kind: Kind, start: usize) -> Result<Certificate, u32>
+pub(crate) fn certificate(
+    bytes: &[u8],
+    places: u32,
+    kind: Kind,
+    start: usize,
+) -> Result<Certificate, u32>
     requires { ⌜ (places ≡ placesIn (now bytes)) × (1 ≤ places) × (places ≤ 16) × (start + 8 + 2 * places ≤ length (now bytes)) × (start ≤ 65535) ⌝ }
     ensures { λ r. ⌜ ByOk r (λ c. FieldsLawful (now (bytes .entry)) kind start × SpellsCertificate (now (bytes .entry)) (codeOf kind) start (valuesOf c)) (λ offset. FirstUnlawful (now (bytes .entry)) kind start offset) ⌝ }
 {

@@ -7,6 +7,8 @@ ghost use Rattle.clause.specs.Kinds.{codeOf};
 ghost use Rattle.sheet.specs.Questions.{Outside};
 ghost use Rattle.sheet.specs.Stages.{HeaderRead, Refused};
 use clause::Kind;
+use net::MOST_MOVES;
+use net::MOST_PLACES;
 use refusal::SheetRefusal;
 
 #[derive(Clone, Copy)]
@@ -32,12 +34,16 @@ impl Header {
         ensures { λ r. ⌜ ByOk r (λ h. HeaderRead (now (bytes .entry)) h) (λ e. Refused (now (bytes .entry)) e) ⌝ }
     {
         let [places, moves, first, second, ..] = bytes else {
-            return Err(SheetRefusal::Short { length: bytes.len() as u32 });
+            return Err(SheetRefusal::Short {
+                length: bytes.len() as u32,
+            });
         };
-        if *places < 1 || *places > 16 {
+        let places = u32::from(*places);
+        if places < 1 || places > MOST_PLACES {
             return Err(SheetRefusal::Size { offset: 0 });
         }
-        if *moves < 1 || *moves > 32 {
+        let moves = u32::from(*moves);
+        if moves < 1 || moves > MOST_MOVES {
             return Err(SheetRefusal::Size { offset: 1 });
         }
         let Some(first) = first_kind(*first) else {
@@ -46,10 +52,17 @@ impl Header {
         let Some(second) = Kind::from_code(*second) else {
             return Err(SheetRefusal::Kind { offset: 3 });
         };
-        let header = Header { places: u32::from(*places), moves: u32::from(*moves), first, second };
+        let header = Header {
+            places,
+            moves,
+            first,
+            second,
+        };
         let size = header.size();
         if bytes.len() != size {
-            return Err(SheetRefusal::Length { smaller: bytes.len().min(size) as u32 });
+            return Err(SheetRefusal::Length {
+                smaller: bytes.len().min(size) as u32,
+            });
         }
         Ok(header)
     }

@@ -24,11 +24,22 @@ fn read_fields(bytes: &[u8]) -> Result<Sheet, SheetRefusal>
         Ok(first) => first,
         Err(offset) => return Err(SheetRefusal::Field { offset }),
     };
-    let second = match fields::certificate(bytes, header.places, header.second, header.second_at()) {
+    let second = match fields::certificate(
+        bytes,
+        header.places,
+        header.second,
+        header.second_at(),
+    ) {
         Ok(second) => second,
         Err(offset) => return Err(SheetRefusal::Field { offset }),
     };
-    Ok(Sheet { state: ReadPlan::of(&plan), plan, counts, first, second })
+    Ok(Sheet {
+        state: ReadPlan::of(&plan),
+        plan,
+        counts,
+        first,
+        second,
+    })
 }
 
 // The plan, the filed counts and the certificates that the bytes spell, or the first question that they answer with no.

@@ -15,7 +15,7 @@ weights-long w =
     let last = w .len - 1 in
     let below : last < w .len = omega arith in
     length-take-le (w .len) (w .weights)
-      (⊎-elim
-        (λ short. absurd (omega (arith, w .range last below, getD-past (w .weights) last 0 (omega arith))))
-        (λ enough. enough)
-        (cases-lt (length (w .weights)) (w .len)))
+    (⊎-elim
+    (λ short. absurd (omega (arith, w .range last below, getD-past (w .weights) last 0 (omega arith))))
+    (λ enough. enough)
+    (cases-lt (length (w .weights)) (w .len)))

@@ -19,8 +19,8 @@ abbrev pub givenWeight : Net → List ℕ → ℕ → ℕ
 givenWeight n ws t = sum (length ws) (λ p. getD ws p 0 * n .gives t p)
 
 -- move t is not idle, and takes another weight than it gives
-abbrev pub Tips : Net → List ℕ → ℕ → Type 0
-Tips n ws t = (t < n .moves) × (Idle n t → ⊥) × (takenWeight n ws t ≡ givenWeight n ws t → ⊥)
+abbrev pub IsUneven : Net → List ℕ → ℕ → Type 0
+IsUneven n ws t = (t < n .moves) × (Idle n t → ⊥) × (takenWeight n ws t ≡ givenWeight n ws t → ⊥)
 
 -- a weight for each place, and every move that is not idle takes and gives the same weight
 abbrev pub Balances : Net → List ℕ → Type 0

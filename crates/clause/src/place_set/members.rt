@@ -22,7 +22,10 @@ impl PlaceSet {
             }
             members[p] = numbers[p] == 1;
         }
-        Some(PlaceSet { members, len: numbers.len() as u32 })
+        Some(PlaceSet {
+            members,
+            len: numbers.len() as u32,
+        })
     }
 
     pub fn places(&self) -> u32

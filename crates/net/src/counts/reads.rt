@@ -17,7 +17,10 @@ impl Counts {
         for p in 0..numbers.len() {
             held[p] = numbers[p];
         }
-        Some(Counts { held, len: numbers.len() as u32 })
+        Some(Counts {
+            held,
+            len: numbers.len() as u32,
+        })
     }
 
     pub fn places(&self) -> u32
@@ -30,7 +33,11 @@ impl Counts {
     pub fn count(&self, p: u32) -> Option<u32>
         ensures { λ r. ⌜ BySome r (length (marking (now (self .entry))) ≤ p) (λ n. (p < length (marking (now (self .entry)))) × (n ≡ getD (marking (now (self .entry))) p 0)) ⌝ }
     {
-        if p < self.len { Some(self.held[p as usize]) } else { None }
+        if p < self.len {
+            Some(self.held[p as usize])
+        } else {
+            None
+        }
     }
 
     // The count at a place, where a place that is not there holds 0.

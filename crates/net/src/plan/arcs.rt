@@ -5,9 +5,9 @@ ghost use lib.ListN.{length, getD};
 ghost use Rattle.std.specs.Options.{Cases as BySome};
 ghost use Rattle.std.specs.Orderings.{When};
 ghost use Rattle.net.specs.Model.{net, spelled, Lawful, Light, Same, IsRow};
+use super::MOST_ARC_WEIGHT;
 use super::MOST_MOVES;
 use super::MOST_PLACES;
-use super::MOST_WEIGHT;
 use super::Plan;
 
 // Whether each number is at most the largest weight.
@@ -15,7 +15,7 @@ fn all_light(rows: &[u16]) -> bool
     ensures { λ r. ⌜ When r (Light (now (rows .entry))) (Light (now (rows .entry)) → ⊥) ⌝ }
 {
     for i in 0..rows.len() {
-        if rows[i] > MOST_WEIGHT {
+        if rows[i] > MOST_ARC_WEIGHT {
             return false;
         }
     }
@@ -47,7 +47,11 @@ fn row_of(rows: &[u16], width: u32, t: u32) -> &[u16]
 fn entry(row: &[u16], p: u32) -> u16
     ensures { λ r. ⌜ r ≡ getD (now (row .entry)) p 0 ⌝ }
 {
-    if (p as usize) < row.len() { row[p as usize] } else { 0 }
+    if (p as usize) < row.len() {
+        row[p as usize]
+    } else {
+        0
+    }
 }
 
 impl Plan {
@@ -62,7 +66,12 @@ impl Plan {
         if takes.len() != arcs || gives.len() != arcs || !all_light(takes) || !all_light(gives) {
             return None;
         }
-        Some(Plan { places, moves, takes: padded(takes), gives: padded(gives) })
+        Some(Plan {
+            places,
+            moves,
+            takes: padded(takes),
+            gives: padded(gives),
+        })
     }
 
     pub fn places(&self) -> u32
@@ -83,14 +92,22 @@ impl Plan {
     pub fn takes_of(&self, t: u32) -> Option<&[u16]>
         ensures { λ r. ⌜ BySome r (net (now (self .entry)) .moves ≤ t) (λ row. (t < net (now (self .entry)) .moves) × IsRow (net (now (self .entry))) (net (now (self .entry)) .takes) t (now row)) ⌝ }
     {
-        if t < self.moves { Some(row_of(&self.takes, self.places, t)) } else { None }
+        if t < self.moves {
+            Some(row_of(&self.takes, self.places, t))
+        } else {
+            None
+        }
     }
 
     // What move t gives at each place, absent where the plan has no such move.
     pub fn gives_of(&self, t: u32) -> Option<&[u16]>
         ensures { λ r. ⌜ BySome r (net (now (self .entry)) .moves ≤ t) (λ row. (t < net (now (self .entry)) .moves) × IsRow (net (now (self .entry))) (net (now (self .entry)) .gives) t (now row)) ⌝ }
     {
-        if t < self.moves { Some(row_of(&self.gives, self.places, t)) } else { None }
+        if t < self.moves {
+            Some(row_of(&self.gives, self.places, t))
+        } else {
+            None
+        }
     }
 
     // What move t takes at place p: 0 where the plan has no such move or place.

@@ -6,7 +6,7 @@ ghost use Rattle.std.specs.Orderings.{When};
 ghost use Rattle.net.specs.Model.{net};
 ghost use Rattle.weigh.specs.Weights.{weightsOf};
 ghost use Rattle.weigh.specs.Sums.{weighed};
-ghost use Rattle.weigh.specs.Balance.{Tips};
+ghost use Rattle.weigh.specs.Balance.{IsUneven};
 ghost use Rattle.weigh.specs.Judged.{Judged};
 use super::Weighing;
 use crate::balance::Balance;
@@ -40,7 +40,7 @@ impl Weighing {
     // Whether move t is not idle and takes another weight than it gives. The sums of an idle move are not formed.
     fn is_uneven(&self, plan: &Plan, t: u32) -> bool
         requires { ⌜ now self .len ≡ net (now plan) .places ⌝ }
-        ensures { λ r. ⌜ When r (Tips (net (now (plan .entry))) (weightsOf (now (self .entry))) t) (Tips (net (now (plan .entry))) (weightsOf (now (self .entry))) t → ⊥) ⌝ }
+        ensures { λ r. ⌜ When r (IsUneven (net (now (plan .entry))) (weightsOf (now (self .entry))) t) (IsUneven (net (now (plan .entry))) (weightsOf (now (self .entry))) t → ⊥) ⌝ }
     {
         let Some(takes) = plan.takes_of(t) else {
             return false;

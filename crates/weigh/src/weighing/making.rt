@@ -23,7 +23,10 @@ impl Weighing {
             }
             weights[p] = weight;
         }
-        Some(Weighing { weights, len: numbers.len() as u32 })
+        Some(Weighing {
+            weights,
+            len: numbers.len() as u32,
+        })
     }
 
     pub fn places(&self) -> u32
@@ -36,6 +39,10 @@ impl Weighing {
     pub fn weight(&self, p: u32) -> Option<u16>
         ensures { λ r. ⌜ BySome r (length (weightsOf (now (self .entry))) ≤ p) (λ n. (p < length (weightsOf (now (self .entry)))) × (n ≡ getD (weightsOf (now (self .entry))) p 0) × (1 ≤ n) × (n ≤ 1000)) ⌝ }
     {
-        if p < self.len { Some(self.weights[p as usize]) } else { None }
+        if p < self.len {
+            Some(self.weights[p as usize])
+        } else {
+            None
+        }
     }
 }

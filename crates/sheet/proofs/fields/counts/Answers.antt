@@ -10,5 +10,5 @@ returns c =
     let bytes = c .args .bytes .now in
     let at : c .counts-at .result ≡ 4 + 4 * arcsIn bytes = c .counts-at .ensures ∙ ap (λ n. 4 + 4 * n) (arcs-of (c .pre)) in
     rw (c .in-Some .ensures tt)
-      (reads-part (c .args .header .now .places) (placesIn bytes) (λ p. word32 bytes (countAt bytes p)) (c .words32-numbers .result) (c .pre .places) (omega arith)
-        (λ k h. c .words32-numbers .ensures k h ∙ ap (λ a. word32 bytes (a + 4 * k)) at))
+    (reads-part (c .args .header .now .places) (placesIn bytes) (λ p. word32 bytes (countAt bytes p)) (c .words32-numbers .result) (c .pre .places) (omega arith)
+    (λ k h. c .words32-numbers .ensures k h ∙ ap (λ a. word32 bytes (a + 4 * k)) at))

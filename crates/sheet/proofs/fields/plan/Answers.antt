@@ -16,7 +16,7 @@ use Rattle.sheet.proofs.fields.plan.Needs.{After-words16-gives}
 
 -- what row t has at place p
 entry-read : (bytes : List ℕ) (f : ℕ → ℕ) (rows : List ℕ) → Reads (arcsIn bytes) f rows → (width : ℕ) → width ≡ placesIn bytes
-  → (t p : ℕ) → t < movesIn bytes → p < placesIn bytes → entryAt width rows t p ≡ f (t * placesIn bytes + p)
+    → (t p : ℕ) → t < movesIn bytes → p < placesIn bytes → entryAt width rows t p ≡ f (t * placesIn bytes + p)
 entry-read bytes f rows reads width is t p ht hp =
     ap (λ w. entryAt w rows t p) is ∙ arc-in (placesIn bytes) rows t p hp ∙ reads .1 (t * placesIn bytes + p) (omega (arith, row-within t (placesIn bytes) (movesIn bytes) ht))
 
@@ -28,15 +28,15 @@ record Rows (bytes ts gs : List ℕ) : Type 0 where
 module _ {bytes ts gs : List ℕ} (rows : Rows bytes ts gs) where
   -- no take is heavy, and none of the first n gives
   light-arcs : ((k : ℕ) → k < length ts → getD ts k 0 ≤ 1000) → (n : ℕ) → n ≤ arcsIn bytes → ((k : ℕ) → k < n → getD gs k 0 ≤ 1000)
-    → (k : ℕ) → k < arcsIn bytes + n → word16 bytes (arcAt k) ≤ 1000
+      → (k : ℕ) → k < arcsIn bytes + n → word16 bytes (arcAt k) ≤ 1000
   light-arcs lightTakes n few lightGives k h =
       ⊎-elim
-        (λ take. omega (arith, rows .takes .1 k take, lightTakes k (omega (arith, rows .takes .0))))
-        (λ give.
-          let j = k - arcsIn bytes in
-          let at : arcsIn bytes + j ≡ k = omega arith in
-          subst (λ i. word16 bytes (arcAt i) ≤ 1000) at (omega (arith, rows .gives .1 j (omega arith), lightGives j (omega arith))))
-        (cases-lt k (arcsIn bytes))
+      (λ take. omega (arith, rows .takes .1 k take, lightTakes k (omega (arith, rows .takes .0))))
+      (λ give.
+      let j = k - arcsIn bytes in
+      let at : arcsIn bytes + j ≡ k = omega arith in
+      subst (λ i. word16 bytes (arcAt i) ≤ 1000) at (omega (arith, rows .gives .1 j (omega arith), lightGives j (omega arith))))
+      (cases-lt k (arcsIn bytes))
 
   spells-net : (n : Net) (width height : ℕ) → Same n (spelled width height ts gs) → width ≡ placesIn bytes → height ≡ movesIn bytes → SpellsNet bytes n
   spells-net n width height same ps ms =
@@ -59,7 +59,7 @@ rows-read c =
     record {
       takes = reads-part arcs (arcsIn bytes) (λ k. word16 bytes (arcAt k)) (c .words16-takes .result) is (omega arith) (c .words16-takes .ensures);
       gives = reads-part arcs (arcsIn bytes) (λ k. word16 bytes (arcAt (arcsIn bytes + k))) (c .words16-gives .result) is (omega arith)
-        (λ k h. let at : 4 + 2 * arcs + 2 * k ≡ arcAt (arcsIn bytes + k) = omega arith in c .words16-gives .ensures k h ∙ ap (word16 bytes) at);
+          (λ k h. let at : 4 + 2 * arcs + 2 * k ≡ arcAt (arcsIn bytes + k) = omega arith in c .words16-gives .ensures k h ∙ ap (word16 bytes) at);
     }
 
 pub returns-in-Some : need.returns-in-Some
@@ -110,6 +110,7 @@ pub returns : need.returns
 returns c =
     let rows = rows-read (need.at·returns c .After-words16-gives) in
     let arcs = arcsIn (c .args .bytes .now) in
-    let lightGives = c .in-rest-first-heavy .ensures tt in
-    ((λ k h. light-arcs rows (c .in-rest .ensures tt) arcs (omega arith) (λ j below. lightGives j (omega (arith, rows .gives .0))) k (omega arith)),
-     spells-net rows (net (c .in-Some-new .plan)) (c .args .header .now .places) (c .args .header .now .moves) (c .in-Some-new .ensures tt .1) (c .pre .places) (c .pre .moves))
+    let lightGives = c .in-rest-first-heavy .ensures tt in (
+      (λ k h. light-arcs rows (c .in-rest .ensures tt) arcs (omega arith) (λ j below. lightGives j (omega (arith, rows .gives .0))) k (omega arith)),
+      spells-net rows (net (c .in-Some-new .plan)) (c .args .header .now .places) (c .args .header .now .moves) (c .in-Some-new .ensures tt .1) (c .pre .places) (c .pre .moves),
+    )

@@ -25,20 +25,21 @@ pub returns-in-Err-certificate-2 : need.returns-in-Err-certificate-2
 returns-in-Err-certificate-2 c =
     let h = c .in-Continue-header .ensures tt in
     second-unlawful h (c .in-Ok .ensures tt .0)
-      (rw (first-start h (c .first-at .ensures)) at (c .in-Ok-certificate .ensures tt .0))
-      (rw (second-start h (c .second-at .ensures)) at (c .in-Err-certificate-2 .ensures tt))
+    (rw (first-start h (c .first-at .ensures)) at (c .in-Ok-certificate .ensures tt .0))
+    (rw (second-start h (c .second-at .ensures)) at (c .in-Err-certificate-2 .ensures tt))
 
 pub returns : need.returns
 returns c =
     let h = c .in-Continue-header .ensures tt in
     let plan = c .in-Ok .ensures tt in
     let first = rw (first-start h (c .first-at .ensures)) at (c .in-Ok-certificate .ensures tt) in
-    let second = rw (second-start h (c .second-at .ensures)) at (c .in-Ok-certificate-2 .ensures tt) in
-    (both-lawful h (plan .0) (first .0) (second .0),
-     record {
-       state = (c .of .ensures .places ∙ plan .1 .places, c .of .ensures .moves ∙ plan .1 .moves);
-       plan = plan .1;
-       counts = c .counts-counts .ensures;
-       first = rw (h .first) at (first .1);
-       second = rw (h .second) at (second .1);
-     })
+    let second = rw (second-start h (c .second-at .ensures)) at (c .in-Ok-certificate-2 .ensures tt) in (
+      both-lawful h (plan .0) (first .0) (second .0),
+      record {
+        state = (c .of .ensures .places ∙ plan .1 .places, c .of .ensures .moves ∙ plan .1 .moves);
+        plan = plan .1;
+        counts = c .counts-counts .ensures;
+        first = rw (h .first) at (first .1);
+        second = rw (h .second) at (second .1);
+      },
+    )

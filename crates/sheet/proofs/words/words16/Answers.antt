@@ -11,4 +11,4 @@ loop-k-holds g c = (length-replicate (g .N) 0, λ j h. absurd (omega arith))
 pub loop-k-again : need.loop-k-again
 loop-k-again g c =
     filled-more (g .N) (λ j. word16 (c .args .bytes .now) (c .args .at + 2 * j)) (c .loop-k .k) (c .word16 .result) (c .loop-k .words)
-      (omega (arith, c .pre .0)) (c .word16 .ensures) (c .loop-k .inv)
+    (omega (arith, c .pre .0)) (c .word16 .ensures) (c .loop-k .inv)

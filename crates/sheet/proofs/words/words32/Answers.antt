@@ -11,4 +11,4 @@ loop-k-holds g c = (length-replicate (g .N) 0, λ j h. absurd (omega arith))
 pub loop-k-again : need.loop-k-again
 loop-k-again g c =
     filled-more (g .N) (λ j. word32 (c .args .bytes .now) (c .args .at + 4 * j)) (c .loop-k .k) (c .word32 .result) (c .loop-k .words)
-      (omega (arith, c .pre .0)) (c .word32 .ensures) (c .loop-k .inv)
+    (omega (arith, c .pre .0)) (c .word32 .ensures) (c .loop-k .inv)

@@ -12,7 +12,7 @@ use Rattle.clause.proofs.certificate.Certificate.number.Needs as need
 
 -- a weight that is asked for, or 0, is what the list has at the place
 weight-at : (ws : List ℕ) (p : ℕ) (o : Option ℕ)
-  → BySome o (length ws ≤ p) (λ n. (p < length ws) × (n ≡ getD ws p 0) × (1 ≤ n) × (n ≤ 1000)) → valueOr o 0 ≡ getD ws p 0
+    → BySome o (length ws ≤ p) (λ n. (p < length ws) × (n ≡ getD ws p 0) × (1 ≤ n) × (n ≤ 1000)) → valueOr o 0 ≡ getD ws p 0
 weight-at ws p (Some n) found = found .1
 weight-at ws p None past = sym (getD-past ws p 0 past)
 

@@ -8,10 +8,11 @@ use Rattle.clause.proofs.place_set.PlaceSet.from_numbers.Needs as need
 
 pub loop-p-again : need.loop-p-again
 loop-p-again c =
-    let inv = c .loop-p .inv in
-    (simp length-set (inv .0),
-     numbers-more (c .args .numbers .now) (c .loop-p .members) (c .loop-p .p) (omega arith) (omega arith) (omega arith) (inv .1),
-     below-more _ _ (inv .2) (omega arith))
+    let inv = c .loop-p .inv in (
+      simp length-set (inv .0),
+      numbers-more (c .args .numbers .now) (c .loop-p .members) (c .loop-p .p) (omega arith) (omega arith) (omega arith) (inv .1),
+      below-more _ _ (inv .2) (omega arith),
+    )
 
 pub returns : need.returns
 returns c =

@@ -6,9 +6,10 @@ use Rattle.net.proofs.counts.Counts.new.Needs as need
 
 pub loop-p-again : need.loop-p-again
 loop-p-again c =
-    let inv = c .loop-p .inv in
-    (simp length-set (inv .0),
-     take-more-set (c .loop-p .held) (c .loop-p .p) _ (omega arith) ∙ rw (inv .1) (sym (take-more (c .args .numbers .now) (c .loop-p .p) 0 (omega arith))))
+    let inv = c .loop-p .inv in (
+      simp length-set (inv .0),
+      take-more-set (c .loop-p .held) (c .loop-p .p) _ (omega arith) ∙ rw (inv .1) (sym (take-more (c .args .numbers .now) (c .loop-p .p) 0 (omega arith))),
+    )
 
 pub returns : need.returns
 returns c =

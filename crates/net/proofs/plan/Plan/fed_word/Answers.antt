@@ -25,18 +25,18 @@ Spells f t word = (word < 2 ^ t) × ((k : ℕ) → k < t → bit word k ≡ cond
 spells-one : (f : ℕ → Bool) (t word : ℕ) → f t ≡ true → Spells f t word → Spells f (t + 1) (2 ^ t + word)
 unfolding Spells
 spells-one f t word set-bit (small, low, many) = (
-    omega (arith, pow-add 2 t 1),
-    below-more _ _ (λ k h. bit-low word t k h ∙ low k h) (bit-top word t small ∙ sym (ap (λ b. cond b 1 0) set-bit)),
-    ones-top word t small ∙ ap (λ n. n + 1) many ∙ sym (howMany-more t f ∙ ap (λ b. howMany t f + cond b 1 0) set-bit),
-  )
+  omega (arith, pow-add 2 t 1),
+  below-more _ _ (λ k h. bit-low word t k h ∙ low k h) (bit-top word t small ∙ sym (ap (λ b. cond b 1 0) set-bit)),
+  ones-top word t small ∙ ap (λ n. n + 1) many ∙ sym (howMany-more t f ∙ ap (λ b. howMany t f + cond b 1 0) set-bit),
+)
 
 spells-none : (f : ℕ → Bool) (t word : ℕ) → f t ≡ false → Spells f t word → Spells f (t + 1) word
 unfolding Spells
 spells-none f t word clear (small, low, many) = (
-    omega (arith, pow-add 2 t 1),
-    below-more _ _ low (bit-past word t t small (omega arith) ∙ sym (ap (λ b. cond b 1 0) clear)),
-    (let e = howMany-more t f ∙ ap (λ b. howMany t f + cond b 1 0) clear in omega arith),
-  )
+  omega (arith, pow-add 2 t 1),
+  below-more _ _ low (bit-past word t t small (omega arith) ∙ sym (ap (λ b. cond b 1 0) clear)),
+  (let e = howMany-more t f ∙ ap (λ b. howMany t f + cond b 1 0) clear in omega arith),
+)
 
 pub loop-t-holds : need.loop-t-holds
 unfolding ones howMany
@@ -48,10 +48,11 @@ loop-t-again c =
     let f = isFed (net (c .args .self .now)) (marking (c .args .counts .now)) in
     let t = c .loop-t .t in
     let word = c .loop-t .word in
-    elim (c .if-is-fed .came) [ then-is-fed w ↦
-      let e : c .if-is-fed .word ≡ 2 ^ t + word = w .word-is ∙ or-top word t (omega arith) (c .loop-t .inv .0) in
-      rw e (spells-one f t word (sym (c .is-fed .ensures .value) ∙ w .if-is-fed .taken) (c .loop-t .inv))
-    | else-is-fed w ↦ rw (w .word-is) (spells-none f t word (sym (c .is-fed .ensures .value) ∙ w .if-is-fed .left) (c .loop-t .inv))
+    elim (c .if-is-fed .came) [
+      | then-is-fed w ↦
+          let e : c .if-is-fed .word ≡ 2 ^ t + word = w .word-is ∙ or-top word t (omega arith) (c .loop-t .inv .0) in
+          rw e (spells-one f t word (sym (c .is-fed .ensures .value) ∙ w .if-is-fed .taken) (c .loop-t .inv))
+      | else-is-fed w ↦ rw (w .word-is) (spells-none f t word (sym (c .is-fed .ensures .value) ∙ w .if-is-fed .left) (c .loop-t .inv))
     ]
 
 pub returns : need.returns
@@ -64,9 +65,9 @@ returns c =
     let end : c .loop-t .t ≡ n .moves = omega arith in
     record {
       bits = λ t. ⊎-elim
-        (λ below. low t (omega arith))
-        (λ past. bit-past (c .loop-t .word) (c .loop-t .t) t small (omega arith)
+          (λ below. low t (omega arith))
+          (λ past. bit-past (c .loop-t .word) (c .loop-t .t) t small (omega arith)
           ∙ sym (ap (λ b. cond b 1 0) (not-fed n m t (λ f. omega (arith, f .0)))))
-        (cases-lt t (n .moves));
-      ones = many ∙ ap (λ k. howMany k (isFed n m)) end
+          (cases-lt t (n .moves));
+      ones = many ∙ ap (λ k. howMany k (isFed n m)) end;
     }

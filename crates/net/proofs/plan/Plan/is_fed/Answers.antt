@@ -19,7 +19,7 @@ returns-then-held-from c =
     let m = marking (c .args .counts .now) in
     let p = c .loop-p .p in
     let unfed : Fed n m (c .args .t) → ⊥ =
-      λ f. omega (arith, f .1 p (c .loop-p-test .taken), c .in-Some .ensures tt .1 .1 p (c .loop-p-test .taken)) in
+    λ f. omega (arith, f .1 p (c .loop-p-test .taken), c .in-Some .ensures tt .1 .1 p (c .loop-p-test .taken)) in
     record { value = sym (not-fed n m (c .args .t) unfed); fed = unfed }
 
 pub returns : need.returns

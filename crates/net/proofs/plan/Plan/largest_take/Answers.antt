@@ -16,9 +16,9 @@ loop-t-again c =
     let p = c .args .p in
     let t = c .loop-t .t in
     c .max-largest .ensures
-      ∙ ap (λ a. max a (c .take .result)) (c .loop-t .inv)
-      ∙ ap (λ b. max (largestBelow n p t) b) (c .take .ensures .value)
-      ∙ sym (largest-more n p t)
+    ∙ ap (λ a. max a (c .take .result)) (c .loop-t .inv)
+    ∙ ap (λ b. max (largestBelow n p t) b) (c .take .ensures .value)
+    ∙ sym (largest-more n p t)
 
 pub returns-then-largest-eq0 : need.returns-then-largest-eq0
 returns-then-largest-eq0 c =

@@ -16,9 +16,9 @@ loop-t-again c =
     let p = c .args .p in
     let t = c .loop-t .t in
     c .lesser-least .ensures
-      ∙ ap (λ a. lesserTake a (c .take .result)) (c .loop-t .inv)
-      ∙ ap (λ b. lesserTake (leastBelow n p t) b) (c .take .ensures .value)
-      ∙ sym (least-more n p t)
+    ∙ ap (λ a. lesserTake a (c .take .result)) (c .loop-t .inv)
+    ∙ ap (λ b. lesserTake (leastBelow n p t) b) (c .take .ensures .value)
+    ∙ sym (least-more n p t)
 
 pub returns-then-least-eq0 : need.returns-then-least-eq0
 returns-then-least-eq0 c =

@@ -17,7 +17,10 @@ ghost-result c =
     let takes = c .padded .ensures in
     let gives = c .padded-2 .ensures in
     let lt = c .if-not-all-light .ensures tt in
-    let lg = c .if-not-all-light-2 .ensures tt in
-    ((omega arith, omega arith, omega arith, omega arith),
-     ((λ k. (let e = takes k in let l = lt k in omega arith, let e = gives k in let l = lg k in omega arith)),
-      ((λ k h. (takes k ∙ getD-past (c .args .takes .now) k 0 (omega arith), gives k ∙ getD-past (c .args .gives .now) k 0 (omega arith))), tt)))
+    let lg = c .if-not-all-light-2 .ensures tt in (
+      (omega arith, omega arith, omega arith, omega arith),
+      (
+        (λ k. (let e = takes k in let l = lt k in omega arith, let e = gives k in let l = lg k in omega arith)),
+        ((λ k h. (takes k ∙ getD-past (c .args .takes .now) k 0 (omega arith), gives k ∙ getD-past (c .args .gives .now) k 0 (omega arith))), tt),
+      ),
+    )

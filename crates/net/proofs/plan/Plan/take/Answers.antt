@@ -11,7 +11,7 @@ returns-in-Some c =
     let plan = c .args .self .now in
     let row = c .in-Some .ensures tt .1 in
     let e : c .entry .result ≡ arcAt (plan .places) (plan .takes) (c .args .t) (c .args .p) =
-      c .entry .ensures ∙ row-entry (plan .places) (plan .takes) _ (c .args .t) (c .args .p) (row .0) (row .1) in
+    c .entry .ensures ∙ row-entry (plan .places) (plan .takes) _ (c .args .t) (c .args .p) (row .0) (row .1) in
     let l = arc-light (plan .places) (plan .takes) 1000 (λ k. plan .light k .0) (c .args .t) (c .args .p) in
     record { value = e; bound = omega arith }
 

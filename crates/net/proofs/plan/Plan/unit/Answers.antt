@@ -21,7 +21,7 @@ loop-t-again c =
     let t = c .loop-t .t in
     let taken = found _ _ (gcdOfArcs n p t) (n .takes t p) (c .gcd-taken .result) (c .gcd-taken .ensures) (c .loop-t .inv) (c .from .ensures ∙ c .take .ensures .value) in
     found _ _ (gcdOf (gcdOfArcs n p t) (n .takes t p)) (n .gives t p) (c .gcd-common .result) (c .gcd-common .ensures) taken (c .from-in-loop-t .ensures ∙ c .give .ensures .value)
-      ∙ sym (arcs-fold n p t)
+    ∙ sym (arcs-fold n p t)
 
 pub returns-then-common-eq0 : need.returns-then-common-eq0
 returns-then-common-eq0 c =

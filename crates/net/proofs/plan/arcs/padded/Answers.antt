@@ -14,6 +14,6 @@ pub returns : need.returns
 returns c k =
     let inv = c .loop-i .inv in
     ⊎-elim
-      (λ low. inv .1 k (omega arith))
-      (λ past. inv .2 k (omega arith) ∙ sym (getD-past (c .args .rows .now) k 0 past))
-      (cases-lt k (length (c .args .rows .now)))
+    (λ low. inv .1 k (omega arith))
+    (λ past. inv .2 k (omega arith) ∙ sym (getD-past (c .args .rows .now) k 0 past))
+    (cases-lt k (length (c .args .rows .now)))

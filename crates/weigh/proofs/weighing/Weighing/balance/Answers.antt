@@ -9,6 +9,7 @@ pub loop-t-again : need.loop-t-again
 loop-t-again c = below-more _ _ (c .loop-t .inv) (c .if-is-uneven .ensures tt)
 
 pub returns : need.returns
-returns c =
-    (omega (arith, weights-long (c .args .self .now)),
-     λ t below busy. ⊎-elim (λ same. same) (λ differ. absurd (c .loop-t .inv t (omega arith) (below, busy, differ))) (cases-eq _ _))
+returns c = (
+  omega (arith, weights-long (c .args .self .now)),
+  λ t below busy. ⊎-elim (λ same. same) (λ differ. absurd (c .loop-t .inv t (omega arith) (below, busy, differ))) (cases-eq _ _),
+)

@@ -13,7 +13,7 @@ use Rattle.net.specs.Sums.{sum}
 use Rattle.net.specs.Model.{net, IsRow}
 use Rattle.weigh.specs.Sums.{weighed}
 use Rattle.weigh.specs.Weights.{weightsOf}
-use Rattle.weigh.specs.Balance.{Tips, takenWeight, givenWeight}
+use Rattle.weigh.specs.Balance.{IsUneven, takenWeight, givenWeight}
 use Rattle.weigh.proofs.Sums.{sum-same}
 use Rattle.weigh.proofs.Laws.{idle-even}
 use Rattle.weigh.proofs.Weights.{weights-long}
@@ -25,7 +25,7 @@ module _ (n : Net) (ws : List ℕ) (long : length ws ≡ n .places) (t : ℕ) wh
   row-weight arc row is = sum-same (length ws) _ _ (λ p below. ap (λ x. getD ws p 0 * x) (is .1 p (omega arith)))
 
   -- whether the two weights differ says whether the move tips
-  differ-tips : (a b : ℕ) → t < n .moves → a ≡ takenWeight n ws t → b ≡ givenWeight n ws t → When (not (eqb a b)) (Tips n ws t) (Tips n ws t → ⊥)
+  differ-tips : (a b : ℕ) → t < n .moves → a ≡ takenWeight n ws t → b ≡ givenWeight n ws t → When (not (eqb a b)) (IsUneven n ws t) (IsUneven n ws t → ⊥)
   differ-tips a b below taken given =
       ⊎-elim
       (λ same. rw (eq-eqb a b same) (λ tips. tips .2 (sym taken ∙ same ∙ given)))
@@ -41,5 +41,5 @@ returns c =
     let gives = c .in-Some-gives-of .ensures tt in
     let long : length (weightsOf w) ≡ n .places = weights-long w ∙ c .pre in
     differ-tips n (weightsOf w) long t (c .weigh-row .result) (c .weigh-row-2 .result) (takes .0)
-      (c .weigh-row .ensures ∙ row-weight n (weightsOf w) long t (n .takes) _ (takes .1))
-      (c .weigh-row-2 .ensures ∙ row-weight n (weightsOf w) long t (n .gives) _ (gives .1))
+    (c .weigh-row .ensures ∙ row-weight n (weightsOf w) long t (n .takes) _ (takes .1))
+    (c .weigh-row-2 .ensures ∙ row-weight n (weightsOf w) long t (n .gives) _ (gives .1))

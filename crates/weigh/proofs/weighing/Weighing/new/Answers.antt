@@ -8,10 +8,11 @@ use Rattle.weigh.proofs.weighing.Weighing.new.Needs.{After-loop-p}
 
 pub loop-p-again : need.loop-p-again
 loop-p-again c =
-    let inv = c .loop-p .inv in
-    (simp length-set (inv .0),
-     take-more-set (c .loop-p .weights) (c .loop-p .p) _ (omega arith) ∙ rw (inv .1) (sym (take-more (c .args .numbers .now) (c .loop-p .p) 0 (omega arith))),
-     below-more _ _ (inv .2) (omega arith, omega arith))
+    let inv = c .loop-p .inv in (
+      simp length-set (inv .0),
+      take-more-set (c .loop-p .weights) (c .loop-p .p) _ (omega arith) ∙ rw (inv .1) (sym (take-more (c .args .numbers .now) (c .loop-p .p) 0 (omega arith))),
+      below-more _ _ (inv .2) (omega arith, omega arith),
+    )
 
 -- the weights are the numbers
 copied : (c : After-loop-p) → take (length (c .args .numbers .now)) (c .loop-p .weights) ≡ c .args .numbers .now
@@ -23,12 +24,16 @@ copied c =
 pub ghost-result : need.ghost-result
 ghost-result c =
     let numbers = c .args .numbers .now in
-    let weights = c .loop-p .weights in
-    ((omega arith, omega arith),
-     ((λ k h.
-       let same : getD weights k 0 ≡ getD numbers k 0 = sym (getD-take (length numbers) weights k 0 h) ∙ ap (λ xs. getD xs k 0) (copied c) in
-       let range = c .loop-p .inv .2 k (omega arith) in
-       (omega arith, omega arith)), tt))
+    let weights = c .loop-p .weights in (
+      (omega arith, omega arith),
+      (
+        (λ k h.
+            let same : getD weights k 0 ≡ getD numbers k 0 = sym (getD-take (length numbers) weights k 0 h) ∙ ap (λ xs. getD xs k 0) (copied c) in
+            let range = c .loop-p .inv .2 k (omega arith) in
+            (omega arith, omega arith)),
+        tt,
+      ),
+    )
 
 pub returns : need.returns
 returns c = ((omega arith, omega arith, λ k h. c .loop-p .inv .2 k (omega arith)), copied (need.at·returns c .After-loop-p))

@@ -21,14 +21,14 @@ loop-p-again c =
     let m = marking (c .args .counts .now) in
     let p = c .loop-p .p in
     let whole : c .whole-units-whole .result ≡ unitOf n p * (getD m p 0 / unitOf n p) =
-      c .whole-units-whole .ensures
-      ∙ ap (λ x. c .unit .result * (x / c .unit .result)) (c .held .ensures)
-      ∙ ap (λ x. x * (getD m p 0 / x)) (c .unit .ensures .value) in
+    c .whole-units-whole .ensures
+    ∙ ap (λ x. c .unit .result * (x / c .unit .result)) (c .held .ensures)
+    ∙ ap (λ x. x * (getD m p 0 / x)) (c .unit .ensures .value) in
     summed-more w (λ q. unitOf n q * (getD m q 0 / unitOf n q)) 4294967295000 p (c .loop-p .sum) (c .product-sum .result)
-      (c .loop-p-test .taken)
-      (c .product-sum .ensures .0 ∙ ap (λ x. getD (w .weights) p 0 * x) whole)
-      (c .product-sum .ensures .1)
-      (c .loop-p .inv)
+    (c .loop-p-test .taken)
+    (c .product-sum .ensures .0 ∙ ap (λ x. getD (w .weights) p 0 * x) whole)
+    (c .product-sum .ensures .1)
+    (c .loop-p .inv)
 
 pub returns : need.returns
 returns c =
@@ -37,5 +37,5 @@ returns c =
     let m = marking (c .args .counts .now) in
     record {
       value = summed-all w (λ q. unitOf n q * (getD m q 0 / unitOf n q)) 4294967295000 (c .loop-p .p) (c .loop-p .sum) (omega arith) (c .loop-p .inv);
-      kept = keeps-useful n (weightsOf w) m (unit-is n)
+      kept = keeps-useful n (weightsOf w) m (unit-is n);
     }

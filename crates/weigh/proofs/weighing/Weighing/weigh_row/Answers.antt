@@ -15,4 +15,4 @@ loop-p-again c =
     let weight : c .from .result ≤ 1000 = omega (arith, w .range p (c .loop-p-test .taken)) in
     let number : c .from-in-loop-p .result ≤ 65535 = omega (arith, c .typed .row p) in
     summed-more w (λ q. getD (c .args .row .now) q 0) 65535000 p (c .loop-p .sum) _
-      (c .loop-p-test .taken) (cc) (mul-le-mul weight number) (c .loop-p .inv)
+    (c .loop-p-test .taken) (cc) (mul-le-mul weight number) (c .loop-p .inv)

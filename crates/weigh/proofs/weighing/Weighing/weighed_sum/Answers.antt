@@ -17,10 +17,10 @@ loop-p-again c =
     let m = marking (c .args .counts .now) in
     let p = c .loop-p .p in
     summed-more w (λ q. getD m q 0) 4294967295000 p (c .loop-p .sum) (c .product-sum .result)
-      (c .loop-p-test .taken)
-      (c .product-sum .ensures .0 ∙ ap (λ x. getD (w .weights) p 0 * x) (c .held .ensures))
-      (c .product-sum .ensures .1)
-      (c .loop-p .inv)
+    (c .loop-p-test .taken)
+    (c .product-sum .ensures .0 ∙ ap (λ x. getD (w .weights) p 0 * x) (c .held .ensures))
+    (c .product-sum .ensures .1)
+    (c .loop-p .inv)
 
 pub returns : need.returns
 returns c =
@@ -28,5 +28,5 @@ returns c =
     let m = marking (c .args .counts .now) in
     record {
       value = summed-all w (λ q. getD m q 0) 4294967295000 (c .loop-p .p) (c .loop-p .sum) (omega arith) (c .loop-p .inv);
-      kept = keeps-weighed (weightsOf w) m
+      kept = keeps-weighed (weightsOf w) m;
     }
