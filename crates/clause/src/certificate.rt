@@ -3,9 +3,11 @@ ghost use mathlib.Core.Path.{_≡_};
 ghost use Prim.Native.Nat.{ℕ, _≤_};
 ghost use lib.ListN.{length, getD};
 ghost use Rattle.std.specs.Options.{Cases as BySome};
+ghost use Rattle.clause.specs.Kinds.{codeOf};
 ghost use Rattle.clause.specs.Certificates.{valuesOf, LawfulFields, keptValues};
 use crate::kind::Kind;
 use crate::place_set::PlaceSet;
+use net::MOST_PLACES;
 use weigh::Weighing;
 
 #[derive(Clone, Copy)]
@@ -27,7 +29,10 @@ impl Certificate {
     pub fn new(kind: Kind, ceiling: u64, numbers: &[u16]) -> Option<Certificate>
         ensures { λ r. ⌜ BySome r (LawfulFields kind ceiling (now (numbers .entry)) → ⊥) (λ c. LawfulFields kind ceiling (now (numbers .entry)) × (valuesOf c ≡ keptValues kind ceiling (now (numbers .entry)))) ⌝ }
     {
-        if numbers.len() < 1 || numbers.len() > 16 || !kind.admits_ceiling(ceiling) {
+        if numbers.is_empty()
+            || numbers.len() > MOST_PLACES as usize
+            || !kind.admits_ceiling(ceiling)
+        {
             return None;
         }
         match kind {
@@ -52,7 +57,7 @@ impl Certificate {
     }
 
     pub fn kind(&self) -> Kind
-        ensures { λ r. ⌜ r ≡ valuesOf (now (self .entry)) .kind ⌝ }
+        ensures { λ r. ⌜ codeOf r ≡ valuesOf (now (self .entry)) .code ⌝ }
     {
         match self {
             Certificate::Blank => Kind::Blank,

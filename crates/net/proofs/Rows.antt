@@ -10,7 +10,7 @@ use lib.Dec.{ltb}
 use lib.ListN.{length, getD, replicate, length-replicate}
 use Rattle.std.proofs.shelf.Lists.{getD-past, getD-replicate}
 use Rattle.std.proofs.shelf.Tests.{cases-lt, lt-ltb, le-ltb, cond-true, cond-false}
-use Rattle.net.specs.Model.{arcAt}
+use Rattle.net.specs.Model.{cellAt}
 
 -- a bound on the numbers of a list holds at every index, since there is 0 past the end
 pub bounded : (xs : List ℕ) (n : ℕ) → ((k : ℕ) → k < length xs → getD xs k 0 ≤ n) → (k : ℕ) → getD xs k 0 ≤ n
@@ -33,14 +33,14 @@ pub arcs-within : (width height : ℕ) → width ≤ 16 → height ≤ 32 → he
 arcs-within width height w h = mul-le-mul h w
 
 -- an arc at a place of the row, and past the row
-pub arc-in : (width : ℕ) (rows : List ℕ) (t p : ℕ) → p < width → arcAt width rows t p ≡ getD rows (t * width + p) 0
+pub arc-in : (width : ℕ) (rows : List ℕ) (t p : ℕ) → p < width → cellAt width rows t p ≡ getD rows (t * width + p) 0
 arc-in width rows t p h = cond-true (ltb p width) _ _ (lt-ltb p width h)
 
-pub arc-past : (width : ℕ) (rows : List ℕ) (t p : ℕ) → width ≤ p → arcAt width rows t p ≡ 0
+pub arc-past : (width : ℕ) (rows : List ℕ) (t p : ℕ) → width ≤ p → cellAt width rows t p ≡ 0
 arc-past width rows t p h = cond-false (ltb p width) _ _ (le-ltb p width h)
 
 -- a row past the last one has no arc
-pub arc-none : (width height : ℕ) (rows : List ℕ) → ((k : ℕ) → height * width ≤ k → getD rows k 0 ≡ 0) → (t p : ℕ) → height ≤ t → arcAt width rows t p ≡ 0
+pub arc-none : (width height : ℕ) (rows : List ℕ) → ((k : ℕ) → height * width ≤ k → getD rows k 0 ≡ 0) → (t p : ℕ) → height ≤ t → cellAt width rows t p ≡ 0
 arc-none width height rows blank t p h =
     ⊎-elim
     (λ inside. arc-in width rows t p inside ∙ blank (t * width + p) (let le : height * width ≤ t * width = mul-le-mul-right width h in omega arith))
@@ -48,16 +48,16 @@ arc-none width height rows blank t p h =
     (cases-lt p width)
 
 -- rows with the same numbers have the same arcs
-pub same-arcs : (width : ℕ) (rows rows' : List ℕ) → ((k : ℕ) → getD rows k 0 ≡ getD rows' k 0) → (t p : ℕ) → arcAt width rows t p ≡ arcAt width rows' t p
+pub same-arcs : (width : ℕ) (rows rows' : List ℕ) → ((k : ℕ) → getD rows k 0 ≡ getD rows' k 0) → (t p : ℕ) → cellAt width rows t p ≡ cellAt width rows' t p
 same-arcs width rows rows' e t p = ap (λ x. cond (ltb p width) x 0) (e (t * width + p))
 
 -- what a row that is read by itself has at p
-pub row-entry : (width : ℕ) (rows row : List ℕ) (t p : ℕ) → length row ≡ width → ((q : ℕ) → q < width → getD row q 0 ≡ arcAt width rows t q) → getD row p 0 ≡ arcAt width rows t p
+pub row-entry : (width : ℕ) (rows row : List ℕ) (t p : ℕ) → length row ≡ width → ((q : ℕ) → q < width → getD row q 0 ≡ cellAt width rows t q) → getD row p 0 ≡ cellAt width rows t p
 row-entry width rows row t p long reads =
     ⊎-elim (reads p) (λ past. getD-past row p 0 (omega arith) ∙ sym (arc-past width rows t p past)) (cases-lt p width)
 
 -- an arc is as light as the numbers of its rows
-pub arc-light : (width : ℕ) (rows : List ℕ) (most : ℕ) → ((k : ℕ) → getD rows k 0 ≤ most) → (t p : ℕ) → arcAt width rows t p ≤ most
+pub arc-light : (width : ℕ) (rows : List ℕ) (most : ℕ) → ((k : ℕ) → getD rows k 0 ≤ most) → (t p : ℕ) → cellAt width rows t p ≤ most
 arc-light width rows most light t p =
     ⊎-elim
     (λ inside. let e = arc-in width rows t p inside in let l = light (t * width + p) in omega arith)

@@ -9,12 +9,12 @@ use Rattle.net.specs.Net.{Net}
 use Rattle.net.specs.declared.plan.Plan.{Plan}
 
 -- rows of `width` numbers, one after the other, read at row t and column p; a row has nothing past its width
-abbrev pub arcAt : ℕ → List ℕ → ℕ → ℕ → ℕ
-arcAt width rows t p = cond (ltb p width) (getD rows (t * width + p) 0) 0
+abbrev pub cellAt : ℕ → List ℕ → ℕ → ℕ → ℕ
+cellAt width rows t p = cond (ltb p width) (getD rows (t * width + p) 0) 0
 
 -- the net that two lists of rows spell, move by move and place by place
 abbrev pub spelled : ℕ → ℕ → List ℕ → List ℕ → Net
-spelled width height rows rows' = record { places = width; moves = height; takes = arcAt width rows; gives = arcAt width rows' }
+spelled width height rows rows' = record { places = width; moves = height; takes = cellAt width rows; gives = cellAt width rows' }
 
 abbrev pub net : Plan → Net
 net plan = spelled (plan .places) (plan .moves) (plan .takes) (plan .gives)

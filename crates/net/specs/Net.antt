@@ -5,7 +5,7 @@ use Prim.Native.Nat.{ℕ, _+_, _<_, _≤_}
 use lib.ListN.{length, getD}
 
 -- A plan as the textbook's net: `takes t p` is the weight of the arc from place p to move (transition) t,
--- `gives t p` that of the arc from move t to place p. No arc has the weight 0.
+-- `gives t p` that of the arc from move t to place p. A weight of 0 is no arc.
 pub record Net : Type 0 where
   pub places : ℕ
   pub moves : ℕ

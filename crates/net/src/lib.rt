@@ -8,4 +8,5 @@ pub use plan::MOST_ARC_WEIGHT;
 pub use plan::MOST_MOVES;
 pub use plan::MOST_PLACES;
 pub use plan::Plan;
+pub use plan::first_heavy;
 pub use read_plan::ReadPlan;

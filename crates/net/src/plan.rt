@@ -7,6 +7,8 @@ mod feeding;
 mod takers;
 mod units;
 
+pub use arcs::first_heavy;
+
 // The most places and moves that a plan can have, and the largest weight of an arc.
 pub const MOST_PLACES: u32 = 16;
 

@@ -2,15 +2,14 @@
 use mathlib.Core.Path.{_≡_}
 use mathlib.Core.List.{List}
 use Prim.Native.Nat.{ℕ, _<_}
-use lib.ListN.{length, getD}
-use Rattle.std.specs.Of.Vec.{vec-len, vec-items}
+use lib.ListN.{getD}
 use Rattle.std.specs.Options.{Cases as BySome}
 use Rattle.std.specs.declared.option.Option.{Option}
 use Rattle.std.specs.declared.option.Option.the-variants.{Some, None}
 use Rattle.std.specs.declared.result.Result.{Result}
 use Rattle.std.specs.declared.result.Result.the-variants.{Ok, Err}
 use Rattle.net.specs.Net.{Net}
-use Rattle.net.specs.Divisors.{unitOf}
+use Rattle.net.specs.Divisors.{IsUnit}
 use Rattle.net.specs.Takes.{NoTaker, IsLeastTake, IsLargestTake}
 use Rattle.net.specs.Fed.{IsFedWord, fedMoves}
 use Rattle.net.specs.Model.{net}
@@ -23,20 +22,19 @@ use Rattle.clause.specs.Certificates.{valuesOf}
 use Rattle.clause.specs.declared.certificate.Certificate.{Certificate}
 use Rattle.clause.specs.declared.certificate.Certificate.the-variants.{Blank, Ceiling, NeverStuck, DeadSet, KeptSet}
 use Rattle.refusal.specs.Refusals.{answerOf}
-use Rattle.sheet.specs.Layout.{placesIn, firstCode, secondCode, firstAt, secondAt}
+use Rattle.refusal.specs.declared.refusals.Refusal.{Refusal}
+use Rattle.sheet.specs.Layout.{firstCode, secondCode, firstAt, secondAt}
 use Rattle.sheet.specs.Questions.{Lawful, FirstWrong}
 use Rattle.sheet.specs.Spelled.{SpellsNet, SpellsCounts, SpellsCertificate}
 use Rattle.planrecord.specs.declared.records.PlaceRecord.{PlaceRecord}
 use Rattle.planrecord.specs.declared.records.WeighingRecord.{WeighingRecord}
 use Rattle.planrecord.specs.declared.records.CertificateRecord.{CertificateRecord}
 use Rattle.planrecord.specs.declared.records.PlanRecord.{PlanRecord}
-use Rattle.planrecord.specs.declared.records.DescribeError.{DescribeError}
-use Rattle.planrecord.specs.declared.records.DescribeError.the-variants.{Refused, NoMemory}
 
 -- what is recorded of place p
 pub record DescribesPlace (n : Net) (m : List ℕ) (p : ℕ) (place : PlaceRecord) : Type 0 where
   pub count : place .count ≡ getD m p 0
-  pub unit : place .unit ≡ unitOf n p
+  pub unit : IsUnit n p (place .unit)
   pub least : BySome (place .least) (NoTaker n p) (IsLeastTake n p)
   pub largest : BySome (place .largest) (NoTaker n p) (IsLargestTake n p)
 
@@ -67,8 +65,7 @@ pub record Describes (bytes : List ℕ) (shown : PlanRecord) : Type 0 where
   pub lawful : Lawful bytes
   pub plan : SpellsNet bytes (net (shown .plan))
   pub counts : SpellsCounts bytes (marking (shown .counts))
-  pub placesLong : vec-len (shown .places) ≡ placesIn bytes
-  pub places : (p : ℕ) (other : PlaceRecord) → p < placesIn bytes → DescribesPlace (net (shown .plan)) (marking (shown .counts)) p (getD (vec-items (shown .places)) p other)
+  pub places : (p : ℕ) (other : PlaceRecord) → p < 16 → DescribesPlace (net (shown .plan)) (marking (shown .counts)) p (getD (shown .places) p other)
   pub fedWord : IsFedWord (net (shown .plan)) (marking (shown .counts)) (shown .«fed_word»)
   pub fedCount : shown .«fed_moves» ≡ fedMoves (net (shown .plan)) (marking (shown .counts))
   pub first : SpellsCertificate bytes (firstCode bytes) (firstAt bytes) (valuesOf (shown .first .certificate))
@@ -76,8 +73,7 @@ pub record Describes (bytes : List ℕ) (shown : PlanRecord) : Type 0 where
   pub second : SpellsCertificate bytes (secondCode bytes) (secondAt bytes) (valuesOf (shown .second .certificate))
   pub secondWeighing : DescribesCertificate (net (shown .plan)) (marking (shown .counts)) (shown .second)
 
--- what describing the bytes must answer; it may end for want of memory at any sheet that is not refused
-abbrev pub IsDescription : List ℕ → Result PlanRecord DescribeError → Type 0
+-- what describing the bytes must answer
+abbrev pub IsDescription : List ℕ → Result PlanRecord Refusal → Type 0
 IsDescription bytes (Ok shown) = Describes bytes shown
-IsDescription bytes (Err (Refused refusal)) = FirstWrong bytes (answerOf refusal .number) (answerOf refusal .spot)
-IsDescription bytes (Err NoMemory) = Lawful bytes
+IsDescription bytes (Err refusal) = FirstWrong bytes (answerOf refusal .number) (answerOf refusal .spot)

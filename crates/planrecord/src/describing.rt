@@ -1,24 +1,21 @@
 // How a record is made.
 ghost use mathlib.Core.Path.{_≡_};
 ghost use Prim.Native.Nat.{ℕ, _<_};
-ghost use lib.ListN.{length, getD};
-ghost use Rattle.std.specs.Of.Vec.{vec-len, vec-items};
-ghost use Rattle.std.specs.Vec.{made};
+ghost use lib.ListN.{getD};
 ghost use Rattle.net.specs.Model.{net};
 ghost use Rattle.net.specs.Marking.{marking};
 ghost use Rattle.weigh.specs.Weights.{weightsOf};
 ghost use Rattle.planrecord.specs.Records.{DescribesPlace, DescribesWeighing, DescribesCertificate, IsDescription};
 use crate::records::CertificateRecord;
-use crate::records::DescribeError;
 use crate::records::PlaceRecord;
 use crate::records::PlanRecord;
 use crate::records::WeighingRecord;
 use clause::Certificate;
 use net::Counts;
+use net::MOST_PLACES;
 use net::Plan;
+use refusal::Refusal;
 use sheet::Sheet;
-use std::alloc::AllocError;
-use std::alloc::Global;
 use weigh::Weighing;
 
 fn place_record(plan: &Plan, counts: &Counts, p: u32) -> PlaceRecord
@@ -32,14 +29,14 @@ fn place_record(plan: &Plan, counts: &Counts, p: u32) -> PlaceRecord
     }
 }
 
-fn place_records(heap: Global, plan: &Plan, counts: &Counts) -> Result<Vec<PlaceRecord>, AllocError>
-    ensures { λ r. ⌜ made r (λ v. (vec-len v ≡ net (now (plan .entry)) .places) × ((p : ℕ) (other : PlaceRecord) → p < net (now (plan .entry)) .places → DescribesPlace (net (now (plan .entry))) (marking (now (counts .entry))) p (getD (vec-items v) p other))) ⌝ }
+fn place_records(plan: &Plan, counts: &Counts) -> [PlaceRecord; 16]
+    ensures { λ r. ⌜ ((p : ℕ) (other : PlaceRecord) → p < 16 → DescribesPlace (net (now (plan .entry))) (marking (now (counts .entry))) p (getD r p other)) ⌝ }
 {
-    let mut places = Vec::new(heap);
-    for p in 0..plan.places() {
-        places.push(place_record(plan, counts, p))?;
+    let mut places = [place_record(plan, counts, 0); 16];
+    for p in 0..MOST_PLACES {
+        places[p as usize] = place_record(plan, counts, p);
     }
-    Ok(places)
+    places
 }
 
 fn weighing_record(plan: &Plan, counts: &Counts, weighing: &Weighing) -> WeighingRecord
@@ -56,10 +53,7 @@ fn certificate_record(plan: &Plan, counts: &Counts, certificate: Certificate) ->
     ensures weighing { λ r. ⌜ DescribesCertificate (net (now (plan .entry))) (marking (now (counts .entry))) r ⌝ }
 {
     let weighing = match certificate {
-        Certificate::Ceiling {
-            weighing,
-            ceiling: _,
-        } => Some(weighing_record(plan, counts, &weighing)),
+        Certificate::Ceiling { weighing, .. } => Some(weighing_record(plan, counts, &weighing)),
         Certificate::NeverStuck { weighing } => Some(weighing_record(plan, counts, &weighing)),
         Certificate::Blank | Certificate::DeadSet { .. } | Certificate::KeptSet { .. } => None,
     };
@@ -69,25 +63,13 @@ fn certificate_record(plan: &Plan, counts: &Counts, certificate: Certificate) ->
     }
 }
 
-// The record of the sheet that the bytes spell, or why there is none.
-pub fn describe(heap: Global, bytes: &[u8]) -> Result<PlanRecord, DescribeError>
+// The record of the sheet that the bytes spell, or the first question that they answer with no.
+pub fn describe(bytes: &[u8]) -> Result<PlanRecord, Refusal>
     ensures { λ r. ⌜ IsDescription (now (bytes .entry)) r ⌝ }
 {
-    let Sheet {
-        state: _,
-        plan,
-        counts,
-        first,
-        second,
-    } = match sheet::read(bytes) {
-        Ok(sheet) => sheet,
-        Err(refusal) => return Err(DescribeError::Refused(refusal)),
-    };
-    let Ok(places) = place_records(heap, &plan, &counts) else {
-        return Err(DescribeError::NoMemory);
-    };
+    let Sheet { state: _, plan, counts, first, second } = sheet::read(bytes)?;
     Ok(PlanRecord {
-        places,
+        places: place_records(&plan, &counts),
         fed_word: plan.fed_word(&counts),
         fed_moves: plan.fed_moves(&counts),
         first: certificate_record(&plan, &counts, first),

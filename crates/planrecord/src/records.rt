@@ -1,7 +1,6 @@
 use clause::Certificate;
 use net::Counts;
 use net::Plan;
-use refusal::Refusal;
 use weigh::Balance;
 
 // A place with its filed count, its unit, and its least and largest take where it has a taker.
@@ -27,22 +26,15 @@ pub struct CertificateRecord {
     pub weighing: Option<WeighingRecord>,
 }
 
-// What a sheet says. What the moves take and give is in the plan.
+// What a sheet says. What the moves take and give is in the plan; a place that the plan does not have holds 0, has the unit 1 and no taker.
 #[derive(Drop)]
 pub struct PlanRecord {
     pub plan: Plan,
     pub counts: Counts,
-    pub places: Vec<PlaceRecord>,
+    pub places: [PlaceRecord; 16],
     // the bit worth 2^t is set if and only if move t is fed
     pub fed_word: u32,
     pub fed_moves: u32,
     pub first: CertificateRecord,
     pub second: CertificateRecord,
-}
-
-// Why there is no record: the sheet is refused, or there is no memory.
-#[derive(Clone, Copy)]
-pub enum DescribeError {
-    Refused(Refusal),
-    NoMemory,
 }

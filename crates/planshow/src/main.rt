@@ -1,8 +1,8 @@
 // Shows plan sheets: planshow [dot] [FILE ..], plan.sheet where no file is named.
-use planrecord::DescribeError;
-use planrecord::Dot;
-use planrecord::DotDisplay;
-use planrecord::PlanRecordDisplay;
+use plantext::Dot;
+use plantext::DotDisplay;
+use plantext::Text;
+use plantext::TextDisplay;
 use refusal::RefusalDisplay;
 use std::env;
 use std::error::AnyError;
@@ -24,20 +24,18 @@ fn sheet_bytes(rt: &LibcRuntime, path: &str) -> io::Result<Vec<u8>> {
     }
 }
 
-fn show(rt: &LibcRuntime, as_dot: bool, path: &str) -> Result<(), AnyError> {
+fn show(rt: &LibcRuntime, as_dot: bool, path: &str) -> io::Result<()> {
     let bytes = sheet_bytes(rt, path)?;
-    match planrecord::describe(rt.alloc(), bytes.as_slice()) {
+    match planrecord::describe(bytes.as_slice()) {
         Ok(record) => {
             if as_dot {
-                print!(rt, "{}", Dot(&record))?;
+                print!(rt, "{}", Dot(&record))
             } else {
-                print!(rt, "{record}")?;
+                print!(rt, "{}", Text(&record))
             }
         }
-        Err(DescribeError::Refused(refusal)) => println!(rt, "{refusal}")?,
-        Err(DescribeError::NoMemory) => return Err("there is no memory for the record".into()),
+        Err(refusal) => println!(rt, "{refusal}"),
     }
-    Ok(())
 }
 
 fn run(rt: &LibcRuntime) -> Result<(), AnyError> {

@@ -29,17 +29,18 @@ fn checked(bytes: &mut [u8], case: &Case) -> Result<(), Fail> {
 
 #[test]
 fn lengths() -> Result<(), Fail> {
+    let sheet = *THREE_MOVES;
     for n in 0..4usize {
-        check_eq(answer(&THREE_MOVES[0..n]), (1, 0, n as u32))?;
+        check_eq(answer(&sheet[0..n]), (1, 0, n as u32))?;
     }
-    check_eq(answer(&THREE_MOVES[0..4]), (4, 0, 4))?;
-    check_eq(answer(&THREE_MOVES[0..59]), (4, 0, 59))?;
+    check_eq(answer(&sheet[0..4]), (4, 0, 4))?;
+    check_eq(answer(&sheet[0..59]), (4, 0, 59))?;
     let mut longer = [0u8; 61];
     for i in 0..60usize {
-        longer[i] = THREE_MOVES[i];
+        longer[i] = sheet[i];
     }
     check_eq(answer(&longer), (4, 0, 60))?;
-    check_eq(answer(&THREE_MOVES), (0, 0, 0))
+    check_eq(answer(&sheet), (0, 0, 0))
 }
 
 // The first two bytes are the numbers of places and moves, the next two the kinds.
@@ -126,7 +127,7 @@ fn headers() -> Result<(), Fail> {
         },
     ];
     for case in &cases {
-        let mut bytes = THREE_MOVES;
+        let mut bytes = *THREE_MOVES;
         checked(&mut bytes, case)?;
     }
     Ok(())
@@ -179,7 +180,7 @@ fn takes_and_gives() -> Result<(), Fail> {
         },
     ];
     for case in &cases {
-        let mut bytes = THREE_MOVES;
+        let mut bytes = *THREE_MOVES;
         checked(&mut bytes, case)?;
     }
     Ok(())
@@ -188,7 +189,7 @@ fn takes_and_gives() -> Result<(), Fail> {
 // A take is tried before a give, and a field of the first certificate before one of the second.
 #[test]
 fn lower_offsets_first() -> Result<(), Fail> {
-    let mut bytes = THREE_MOVES;
+    let mut bytes = *THREE_MOVES;
     checked(
         &mut bytes,
         &Case {
@@ -290,7 +291,7 @@ fn weights_and_ceilings() -> Result<(), Fail> {
         },
     ];
     for case in &cases {
-        let mut bytes = THREE_MOVES;
+        let mut bytes = *THREE_MOVES;
         checked(&mut bytes, case)?;
     }
     Ok(())
@@ -338,7 +339,7 @@ fn sets_and_blanks() -> Result<(), Fail> {
         },
     ];
     for case in &cases {
-        let mut bytes = TWO_MOVES;
+        let mut bytes = *TWO_MOVES;
         checked(&mut bytes, case)?;
     }
     Ok(())

@@ -9,7 +9,7 @@ use Rattle.std.proofs.shelf.Lists.{ext-getD}
 use Rattle.std.proofs.shelf.Tests.{cases-lt, cases-eq}
 use Rattle.std.specs.declared.result.Result.{Result}
 use Rattle.std.specs.declared.result.Result.the-variants.{Ok, Err}
-use Rattle.net.specs.Model.{net, Same, arcAt}
+use Rattle.net.specs.Model.{net, Same, cellAt}
 use Rattle.net.specs.Marking.{marking}
 use Rattle.net.specs.declared.plan.Plan.{Plan}
 use Rattle.net.proofs.Rows.{arc-past, arc-none}
@@ -17,8 +17,12 @@ use Rattle.clause.specs.Kinds.{codeOf}
 use Rattle.clause.specs.Certificates.{Values, valuesOf}
 use Rattle.clause.specs.declared.certificate.Certificate.{Certificate}
 use Rattle.clause.specs.declared.certificate.Certificate.the-variants.{Blank, Ceiling, NeverStuck, DeadSet, KeptSet}
+use Rattle.refusal.specs.Refusals.{Answer, answerOf}
+use Rattle.refusal.specs.declared.refusals.Layer.the-variants.{Sheet as sheetLayer}
 use Rattle.refusal.specs.declared.refusals.Refusal.{Refusal}
-use Rattle.sheet.specs.Layout.{word16, word32, placesIn, movesIn, firstCode, secondCode, arcsIn, arcAt as wordAt, countAt, firstAt, secondAt, numberAt}
+use Rattle.refusal.specs.declared.refusals.Refusal.the-variants.{Sheet as refused}
+use Rattle.refusal.specs.declared.refusals.SheetRefusal.the-variants.{Short, Size, Kind, Length, Weight, Field}
+use Rattle.sheet.specs.Layout.{word16, word32, placesIn, movesIn, firstCode, secondCode, arcsIn, arcAt, countAt, firstAt, secondAt, numberAt}
 use Rattle.sheet.specs.Questions.{Wrong, Lawful, FirstWrong}
 use Rattle.sheet.specs.Spelled.{SpellsNet, SpellsCertificate, Spells, IsReading}
 use Rattle.sheet.specs.Agreed.{SameSheet, SameAnswer}
@@ -46,6 +50,27 @@ same-no {a} {b} one other =
 none-wrong : (bytes : List ℕ) {a s : ℕ} → Lawful bytes → FirstWrong bytes a s → ⊥
 none-wrong bytes {a} {s} lawful first = lawful a s (first .wrong)
 
+-- the answer of a sheet's refusal, by its number and spot
+answer : ℕ → ℕ → Answer
+answer asked at = record { number = asked; slot = 0; spot = at; layer = sheetLayer }
+
+answer-parts : (refusal : Refusal) → answerOf refusal ≡ answer (answerOf refusal .number) (answerOf refusal .spot)
+unfolding answer
+answer-parts (refused (Short n)) = refl
+answer-parts (refused (Size n)) = refl
+answer-parts (refused (Kind n)) = refl
+answer-parts (refused (Length n)) = refl
+answer-parts (refused (Weight n)) = refl
+answer-parts (refused (Field n)) = refl
+
+-- refusals with the same number and spot have the same answer
+same-refusals : (one other : Refusal) → answerOf one .number ≡ answerOf other .number → answerOf one .spot ≡ answerOf other .spot → answerOf one ≡ answerOf other
+same-refusals one other numbers spots =
+    answer-parts one
+    ∙ ap (λ asked. answer asked (answerOf one .spot)) numbers
+    ∙ ap (answer (answerOf other .number)) spots
+    ∙ sym (answer-parts other)
+
 -- numbers that are spelled by the same words are the same
 same-words : (n : ℕ) (word : ℕ → ℕ) (xs ys : List ℕ) → length xs ≡ n → length ys ≡ n
     → ((p : ℕ) → p < n → getD xs p 0 ≡ word p) → ((p : ℕ) → p < n → getD ys p 0 ≡ word p) → xs ≡ ys
@@ -68,14 +93,14 @@ same-arcs {moves} {places} {f} {g} one other t p =
 
 -- rows that are 0 past the last one have such arcs
 row-arcs : (width height : ℕ) (rows : List ℕ) {moves places : ℕ} {word : ℕ → ℕ → ℕ} → width ≡ places → height ≡ moves → ((k : ℕ) → height * width ≤ k → getD rows k 0 ≡ 0)
-    → ((t p : ℕ) → t < moves → p < places → arcAt width rows t p ≡ word t p) → Arcs moves places word (arcAt width rows)
+    → ((t p : ℕ) → t < moves → p < places → cellAt width rows t p ≡ word t p) → Arcs moves places word (cellAt width rows)
 row-arcs width height rows wide high blank reads = record {
   inside = reads;
   beyond = λ t p. ⊎-elim (λ past. arc-none width height rows blank t p (omega arith)) (λ past. arc-past width rows t p (omega arith));
 }
 
 -- a blank has no numbers
-blank-numbers : (c : Certificate) → codeOf (valuesOf c .kind) ≡ 0 → valuesOf c .numbers ≡ []
+blank-numbers : (c : Certificate) → valuesOf c .code ≡ 0 → valuesOf c .numbers ≡ []
 blank-numbers Blank e = refl
 blank-numbers (Ceiling _ _) e = absurd (omega arith)
 blank-numbers (NeverStuck _) e = absurd (omega arith)
@@ -83,18 +108,18 @@ blank-numbers (DeadSet _) e = absurd (omega arith)
 blank-numbers (KeptSet _) e = absurd (omega arith)
 
 -- values with the same parts are the same
-same-parts : (v w : Values) → v .kind ≡ w .kind → v .ceiling ≡ w .ceiling → v .numbers ≡ w .numbers → v ≡ w
+same-parts : (v w : Values) → v .code ≡ w .code → v .ceiling ≡ w .ceiling → v .numbers ≡ w .numbers → v ≡ w
 same-parts v w kinds tops lists =
-    ap (λ k. record { kind = k; ceiling = v .ceiling; numbers = v .numbers }) kinds
-    ∙ ap (λ top. record { kind = w .kind; ceiling = top; numbers = v .numbers }) tops
-    ∙ ap (λ xs. record { kind = w .kind; ceiling = w .ceiling; numbers = xs }) lists
+    ap (λ k. record { code = k; ceiling = v .ceiling; numbers = v .numbers }) kinds
+    ∙ ap (λ top. record { code = w .code; ceiling = top; numbers = v .numbers }) tops
+    ∙ ap (λ xs. record { code = w .code; ceiling = w .ceiling; numbers = xs }) lists
 
 module _ (bytes : List ℕ) where
   -- the arcs of a plan that the bytes spell
-  takes-arcs : (plan : Plan) → SpellsNet bytes (net plan) → Arcs (movesIn bytes) (placesIn bytes) (λ t p. word16 bytes (wordAt (t * placesIn bytes + p))) (net plan .takes)
+  takes-arcs : (plan : Plan) → SpellsNet bytes (net plan) → Arcs (movesIn bytes) (placesIn bytes) (λ t p. word16 bytes (arcAt (t * placesIn bytes + p))) (net plan .takes)
   takes-arcs plan s = row-arcs (plan .places) (plan .moves) (plan .takes) (s .places) (s .moves) (λ k h. plan .blank k h .0) (s .takes)
 
-  gives-arcs : (plan : Plan) → SpellsNet bytes (net plan) → Arcs (movesIn bytes) (placesIn bytes) (λ t p. word16 bytes (wordAt (arcsIn bytes + (t * placesIn bytes + p)))) (net plan .gives)
+  gives-arcs : (plan : Plan) → SpellsNet bytes (net plan) → Arcs (movesIn bytes) (placesIn bytes) (λ t p. word16 bytes (arcAt (arcsIn bytes + (t * placesIn bytes + p)))) (net plan .gives)
   gives-arcs plan s = row-arcs (plan .places) (plan .moves) (plan .gives) (s .places) (s .moves) (λ k h. plan .blank k h .1) (s .gives)
 
   -- the bytes spell one plan
@@ -110,7 +135,7 @@ module _ (bytes : List ℕ) where
   same-certificates : (code start : ℕ) (one other : Certificate) → SpellsCertificate bytes code start (valuesOf one) → SpellsCertificate bytes code start (valuesOf other) → valuesOf one ≡ valuesOf other
   same-certificates code start one other s s' =
       same-parts (valuesOf one) (valuesOf other)
-      (same-code (valuesOf one .kind) (valuesOf other .kind) (s .kind ∙ sym (s' .kind)))
+      (s .kind ∙ sym (s' .kind))
       (s .ceiling ∙ sym (s' .ceiling))
       (⊎-elim
       (λ blank. blank-numbers one (s .kind ∙ blank) ∙ sym (blank-numbers other (s' .kind ∙ blank)))
@@ -133,4 +158,4 @@ module _ (bytes : List ℕ) where
   same-answers (Ok one) (Ok other) r r' = same-sheets one other (r .1) (r' .1)
   same-answers (Ok one) (Err refusal) r r' = none-wrong bytes (r .0) r'
   same-answers (Err refusal) (Ok other) r r' = none-wrong bytes (r' .0) r
-  same-answers (Err one) (Err other) r r' = same-no r r'
+  same-answers (Err one) (Err other) r r' = let same = same-no r r' in same-refusals one other (same .0) (same .1)

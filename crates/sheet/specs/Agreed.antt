@@ -26,7 +26,7 @@ abbrev pub SameAnswer : Result Sheet Refusal → Result Sheet Refusal → Type 0
 SameAnswer (Ok one) (Ok other) = SameSheet one other
 SameAnswer (Ok one) (Err refusal) = ⊥
 SameAnswer (Err refusal) (Ok other) = ⊥
-SameAnswer (Err one) (Err other) = (answerOf one .number ≡ answerOf other .number) × (answerOf one .spot ≡ answerOf other .spot)
+SameAnswer (Err one) (Err other) = answerOf one ≡ answerOf other
 
 -- any other reader that keeps the contract gives this answer
 abbrev pub OnlyReading : List ℕ → Result Sheet Refusal → Type 0

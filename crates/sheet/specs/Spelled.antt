@@ -7,7 +7,6 @@ use Rattle.net.specs.Net.{Net}
 use Rattle.net.specs.Model.{net}
 use Rattle.net.specs.Marking.{marking}
 use Rattle.net.specs.ReadPlans.{readPlaces, readMoves}
-use Rattle.clause.specs.Kinds.{codeOf}
 use Rattle.clause.specs.Certificates.{Values, valuesOf}
 use Rattle.std.specs.declared.result.Result.{Result}
 use Rattle.std.specs.declared.result.Result.the-variants.{Ok, Err}
@@ -28,7 +27,7 @@ SpellsCounts bytes m = (length m ≡ placesIn bytes) × ((p : ℕ) → p < place
 
 -- a blank has no numbers of its own: its fields are noughts
 pub record SpellsCertificate (bytes : List ℕ) (code start : ℕ) (values : Values) : Type 0 where
-  pub kind : codeOf (values .kind) ≡ code
+  pub kind : values .code ≡ code
   pub ceiling : values .ceiling ≡ word64 bytes start
   pub size : (code ≡ 0 → ⊥) → length (values .numbers) ≡ placesIn bytes
   pub numbers : (p : ℕ) → p < placesIn bytes → getD (values .numbers) p 0 ≡ word16 bytes (numberAt start p)

@@ -2,7 +2,6 @@
 ghost use mathlib.Core.Path.{_≡_};
 ghost use Prim.Native.Nat.{ℕ, _+_, _*_, _<_, _≤_};
 ghost use lib.ListN.{length, getD};
-ghost use Rattle.std.specs.Options.{Cases as BySome};
 ghost use Rattle.std.specs.Results.{Cases as ByOk};
 ghost use Rattle.net.specs.Model.{net};
 ghost use Rattle.net.specs.Marking.{marking};
@@ -16,20 +15,7 @@ use crate::words;
 use clause::Certificate;
 use clause::Kind;
 use net::Counts;
-use net::MOST_ARC_WEIGHT;
 use net::Plan;
-
-// The index of the first number that is too large for a take or a give.
-fn first_heavy(rows: &[u16]) -> Option<usize>
-    ensures { λ r. ⌜ BySome r ((k : ℕ) → k < length (now (rows .entry)) → getD (now (rows .entry)) k 0 ≤ 1000) (λ i. (i < length (now (rows .entry))) × (1000 < getD (now (rows .entry)) i 0) × ((k : ℕ) → k < i → getD (now (rows .entry)) k 0 ≤ 1000)) ⌝ }
-{
-    for i in 0..rows.len() {
-        if rows[i] > MOST_ARC_WEIGHT {
-            return Some(i);
-        }
-    }
-    None
-}
 
 // The plan, or the offset of the first take or give that is too large.
 pub(crate) fn plan(bytes: &[u8], header: &Header) -> Result<Plan, u32>
@@ -41,10 +27,10 @@ pub(crate) fn plan(bytes: &[u8], header: &Header) -> Result<Plan, u32>
     let gives: [u16; 512] = words::words16(bytes, 4 + 2 * arcs, arcs);
     let takes = &takes[0..arcs];
     let gives = &gives[0..arcs];
-    if let Some(k) = first_heavy(takes) {
+    if let Some(k) = net::first_heavy(takes) {
         return Err((4 + 2 * k) as u32);
     }
-    if let Some(k) = first_heavy(gives) {
+    if let Some(k) = net::first_heavy(gives) {
         return Err((4 + 2 * arcs + 2 * k) as u32);
     }
     match Plan::new(header.places, header.moves, takes, gives) {

@@ -38,8 +38,8 @@ kept n ws b t l after before change =
     omega arith
 
 -- firing keeps the weighed sum
-pub keeps-weighed : (ws m : List ℕ) → FiringKeepsWeighed ws m
-keeps-weighed ws m n b t after f = kept n ws b t (f .fed .0) (λ p. getD after p 0) (λ p. getD m p 0) (f .change)
+pub keeps-weighed : (ws : List ℕ) → FiringKeepsWeighed ws
+keeps-weighed ws n b t before after f = kept n ws b t (f .fed .0) (λ p. getD after p 0) (λ p. getD before p 0) (f .change)
 
 -- a multiple of u that is added to x is added to x rounded down to a multiple of u
 rounded-add : (u x c : ℕ) → 0 < u → u ∣ c → u * ((x + c) / u) ≡ u * (x / u) + c
@@ -48,12 +48,12 @@ rounded-add u x c pos d =
     ap (λ y. u * ((x + y) / u)) (sym whole) ∙ ap (λ y. u * y) (add-mul-div-left x (c / u) pos) ∙ mul-add u (x / u) (c / u) ∙ ap (λ y. u * (x / u) + y) whole
 
 -- firing keeps the useful sum
-pub keeps-useful : (n : Net) (ws m : List ℕ) → ((p : ℕ) → IsUnit n p (unitOf n p)) → FiringKeepsUseful n ws m
-keeps-useful n ws m units b t after f =
+pub keeps-useful : (n : Net) (ws : List ℕ) → ((p : ℕ) → IsUnit n p (unitOf n p)) → FiringKeepsUseful n ws
+keeps-useful n ws units b t before after f =
     let u : ℕ → ℕ = unitOf n in
     let l = f .fed .0 in
-    kept n ws b t l (λ p. u p * (getD after p 0 / u p)) (λ p. u p * (getD m p 0 / u p))
+    kept n ws b t l (λ p. u p * (getD after p 0 / u p)) (λ p. u p * (getD before p 0 / u p))
     (λ p below. let unit = units p in
     sym (rounded-add (u p) (getD after p 0) (n .takes t p) (unit .positive) (unit .divides t l .0))
     ∙ ap (λ x. u p * (x / u p)) (f .change p below)
-    ∙ rounded-add (u p) (getD m p 0) (n .gives t p) (unit .positive) (unit .divides t l .1))
+    ∙ rounded-add (u p) (getD before p 0) (n .gives t p) (unit .positive) (unit .divides t l .1))

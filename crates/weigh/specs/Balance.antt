@@ -26,10 +26,10 @@ IsUneven n ws t = (t < n .moves) × (Idle n t → ⊥) × (takenWeight n ws t �
 abbrev pub Balances : Net → List ℕ → Type 0
 Balances n ws = (length ws ≡ n .places) × ((t : ℕ) → t < n .moves → (Idle n t → ⊥) → takenWeight n ws t ≡ givenWeight n ws t)
 
--- firing keeps the weighed sum under every weighing that balances the net
-abbrev pub FiringKeepsWeighed : List ℕ → List ℕ → Type 0
-FiringKeepsWeighed ws m = (n : Net) → Balances n ws → (t : ℕ) (after : List ℕ) → Fires n t m after → weighed ws after ≡ weighed ws m
+-- firing keeps the weighed sum, in every net that these weights balance and from all counts
+abbrev pub FiringKeepsWeighed : List ℕ → Type 0
+FiringKeepsWeighed ws = (n : Net) → Balances n ws → (t : ℕ) (before after : List ℕ) → Fires n t before after → weighed ws after ≡ weighed ws before
 
 -- and it keeps the useful sum
-abbrev pub FiringKeepsUseful : Net → List ℕ → List ℕ → Type 0
-FiringKeepsUseful n ws m = Balances n ws → (t : ℕ) (after : List ℕ) → Fires n t m after → useful n ws after ≡ useful n ws m
+abbrev pub FiringKeepsUseful : Net → List ℕ → Type 0
+FiringKeepsUseful n ws = Balances n ws → (t : ℕ) (before after : List ℕ) → Fires n t before after → useful n ws after ≡ useful n ws before

@@ -6,13 +6,14 @@ ghost use lib.ListN.{length, getD};
 ghost use Rattle.std.specs.Options.{Cases as BySome};
 ghost use Rattle.clause.specs.Sets.{membersOf, memberNumbers, AreMembers};
 use super::PlaceSet;
+use net::MOST_PLACES;
 
 impl PlaceSet {
     // The set of the places with a 1; none unless there are 1 to 16 numbers, each 0 or 1.
     pub fn from_numbers(numbers: &[u16]) -> Option<PlaceSet>
         ensures { λ r. ⌜ BySome r (AreMembers (now (numbers .entry)) → ⊥) (λ s. AreMembers (now (numbers .entry)) × (memberNumbers s ≡ now (numbers .entry))) ⌝ }
     {
-        if numbers.len() < 1 || numbers.len() > 16 {
+        if numbers.is_empty() || numbers.len() > MOST_PLACES as usize {
             return None;
         }
         let mut members = [false; 16];
@@ -29,7 +30,8 @@ impl PlaceSet {
     }
 
     pub fn places(&self) -> u32
-        ensures { λ r. ⌜ r ≡ length (membersOf (now (self .entry))) ⌝ }
+        ensures value { λ r. ⌜ r ≡ length (membersOf (now (self .entry))) ⌝ }
+        ensures range { λ r. ⌜ (1 ≤ r) × (r ≤ 16) ⌝ }
     {
         self.len
     }

@@ -4,13 +4,14 @@ ghost use lib.ListN.{length, getD};
 ghost use Rattle.std.specs.Options.{Cases as BySome};
 ghost use Rattle.net.specs.Marking.{marking};
 use super::Counts;
+use crate::plan::MOST_PLACES;
 
 impl Counts {
     // The counts of as many places as there are numbers; none where there are more than 16.
     pub fn new(numbers: &[u32]) -> Option<Counts>
         ensures { λ r. ⌜ BySome r (16 < length (now (numbers .entry))) (λ c. marking c ≡ now (numbers .entry)) ⌝ }
     {
-        if numbers.len() > 16 {
+        if numbers.len() > MOST_PLACES as usize {
             return None;
         }
         let mut held = [0u32; 16];

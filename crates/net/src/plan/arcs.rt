@@ -10,16 +10,26 @@ use super::MOST_MOVES;
 use super::MOST_PLACES;
 use super::Plan;
 
-// Whether each number is at most the largest weight.
-fn all_light(rows: &[u16]) -> bool
-    ensures { λ r. ⌜ When r (Light (now (rows .entry))) (Light (now (rows .entry)) → ⊥) ⌝ }
+// The index of the first number that is too large for a take or a give.
+pub fn first_heavy(rows: &[u16]) -> Option<usize>
+    ensures { λ r. ⌜ BySome r ((k : ℕ) → k < length (now (rows .entry)) → getD (now (rows .entry)) k 0 ≤ 1000) (λ i. (i < length (now (rows .entry))) × (1000 < getD (now (rows .entry)) i 0) × ((k : ℕ) → k < i → getD (now (rows .entry)) k 0 ≤ 1000)) ⌝ }
 {
     for i in 0..rows.len() {
         if rows[i] > MOST_ARC_WEIGHT {
-            return false;
+            return Some(i);
         }
     }
-    true
+    None
+}
+
+// Whether no number is too large for a take or a give.
+fn all_light(rows: &[u16]) -> bool
+    ensures { λ r. ⌜ When r (Light (now (rows .entry))) (Light (now (rows .entry)) → ⊥) ⌝ }
+{
+    match first_heavy(rows) {
+        Some(_) => false,
+        None => true,
+    }
 }
 
 // The numbers, and then noughts.
@@ -113,6 +123,7 @@ impl Plan {
     // What move t takes at place p: 0 where the plan has no such move or place.
     pub fn take(&self, t: u32, p: u32) -> u16
         ensures value { λ r. ⌜ r ≡ net (now (self .entry)) .takes t p ⌝ }
+        ensures absent { λ r. ⌜ (net (now (self .entry)) .moves ≤ t → r ≡ 0) ⌝ }
         ensures bound { λ r. ⌜ r ≤ 1000 ⌝ }
     {
         match self.takes_of(t) {
@@ -124,6 +135,7 @@ impl Plan {
     // What move t gives at place p: 0 where the plan has no such move or place.
     pub fn give(&self, t: u32, p: u32) -> u16
         ensures value { λ r. ⌜ r ≡ net (now (self .entry)) .gives t p ⌝ }
+        ensures absent { λ r. ⌜ (net (now (self .entry)) .moves ≤ t → r ≡ 0) ⌝ }
         ensures bound { λ r. ⌜ r ≤ 1000 ⌝ }
     {
         match self.gives_of(t) {

@@ -6,13 +6,14 @@ ghost use Rattle.std.specs.Options.{Cases as BySome};
 ghost use Rattle.weigh.specs.Weights.{weightsOf, AreWeights};
 use super::MOST_WEIGHT;
 use super::Weighing;
+use net::MOST_PLACES;
 
 impl Weighing {
     // The weighing with these weights; none unless there are 1 to 16 of them, each 1 to 1,000.
     pub fn new(numbers: &[u16]) -> Option<Weighing>
         ensures { λ r. ⌜ BySome r (AreWeights (now (numbers .entry)) → ⊥) (λ w. AreWeights (now (numbers .entry)) × (weightsOf w ≡ now (numbers .entry))) ⌝ }
     {
-        if numbers.len() < 1 || numbers.len() > 16 {
+        if numbers.is_empty() || numbers.len() > MOST_PLACES as usize {
             return None;
         }
         let mut weights = [0u16; 16];
@@ -30,7 +31,8 @@ impl Weighing {
     }
 
     pub fn places(&self) -> u32
-        ensures { λ r. ⌜ r ≡ length (weightsOf (now (self .entry))) ⌝ ∗ ⌜ (1 ≤ r) × (r ≤ 16) ⌝ }
+        ensures value { λ r. ⌜ r ≡ length (weightsOf (now (self .entry))) ⌝ }
+        ensures range { λ r. ⌜ (1 ≤ r) × (r ≤ 16) ⌝ }
     {
         self.len
     }

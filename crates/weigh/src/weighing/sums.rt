@@ -31,7 +31,7 @@ impl Weighing {
     // Weight × count, over all places. Firing keeps it in every plan that this weighing balances.
     pub fn weighed_sum(&self, counts: &Counts) -> u64
         ensures value { λ r. ⌜ r ≡ weighed (weightsOf (now (self .entry))) (marking (now (counts .entry))) ⌝ }
-        ensures kept { λ r. ⌜ FiringKeepsWeighed (weightsOf (now (self .entry))) (marking (now (counts .entry))) ⌝ }
+        ensures kept { λ r. ⌜ FiringKeepsWeighed (weightsOf (now (self .entry))) ⌝ }
     {
         let mut sum = 0u64;
         for p in 0..self.len {
@@ -43,7 +43,7 @@ impl Weighing {
     // Weight × unit × (count divided by unit, rounded down), over all places. Firing keeps it if this weighing balances the plan.
     pub fn useful_sum(&self, plan: &Plan, counts: &Counts) -> u64
         ensures value { λ r. ⌜ r ≡ useful (net (now (plan .entry))) (weightsOf (now (self .entry))) (marking (now (counts .entry))) ⌝ }
-        ensures kept { λ r. ⌜ FiringKeepsUseful (net (now (plan .entry))) (weightsOf (now (self .entry))) (marking (now (counts .entry))) ⌝ }
+        ensures kept { λ r. ⌜ FiringKeepsUseful (net (now (plan .entry))) (weightsOf (now (self .entry))) ⌝ }
     {
         let mut sum = 0u64;
         for p in 0..self.len {

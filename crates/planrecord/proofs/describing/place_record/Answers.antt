@@ -11,7 +11,7 @@ second-fact (Some x) P Q R both = both .1
 pub returns : need.returns
 returns c = record {
   count = c .held .ensures;
-  unit = c .unit .ensures .value;
+  unit = c .unit .ensures .unit;
   least = second-fact (c .least-take .result) _ _ _ (c .least-take .ensures);
   largest = second-fact (c .largest-take .result) _ _ _ (c .largest-take .ensures);
 }

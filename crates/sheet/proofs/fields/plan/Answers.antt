@@ -6,7 +6,7 @@ use Prim.Native.Nat.{ℕ, _+_, _-_, _*_, _<_, _≤_}
 use lib.ListN.{length, getD, take}
 use Rattle.std.proofs.shelf.Tests.{cases-lt}
 use Rattle.net.specs.Net.{Net}
-use Rattle.net.specs.Model.{arcAt as entryAt, spelled, net, Same}
+use Rattle.net.specs.Model.{cellAt, spelled, net, Same}
 use Rattle.net.proofs.Rows.{bounded, row-within, arc-in}
 use Rattle.sheet.specs.Layout.{word16, placesIn, movesIn, arcsIn, arcAt}
 use Rattle.sheet.specs.Spelled.{SpellsNet}
@@ -16,9 +16,9 @@ use Rattle.sheet.proofs.fields.plan.Needs.{After-words16-gives}
 
 -- what row t has at place p
 entry-read : (bytes : List ℕ) (f : ℕ → ℕ) (rows : List ℕ) → Reads (arcsIn bytes) f rows → (width : ℕ) → width ≡ placesIn bytes
-    → (t p : ℕ) → t < movesIn bytes → p < placesIn bytes → entryAt width rows t p ≡ f (t * placesIn bytes + p)
+    → (t p : ℕ) → t < movesIn bytes → p < placesIn bytes → cellAt width rows t p ≡ f (t * placesIn bytes + p)
 entry-read bytes f rows reads width is t p ht hp =
-    ap (λ w. entryAt w rows t p) is ∙ arc-in (placesIn bytes) rows t p hp ∙ reads .1 (t * placesIn bytes + p) (omega (arith, row-within t (placesIn bytes) (movesIn bytes) ht))
+    ap (λ w. cellAt w rows t p) is ∙ arc-in (placesIn bytes) rows t p hp ∙ reads .1 (t * placesIn bytes + p) (omega (arith, row-within t (placesIn bytes) (movesIn bytes) ht))
 
 -- the takes and the gives of the sheet
 record Rows (bytes ts gs : List ℕ) : Type 0 where

@@ -1,6 +1,8 @@
 use borrow.Author.Count.{below-more}
+use borrow.Author.Tests.{eqb-false}
 use native.Mathlib.Omega.{arith}
 use mathlib.Core.Path.{_≡_, sym, ap, _∙_}
+use Prim.Native.Nat.{_≤_}
 use lib.ListN.{length, length-set, getD, take}
 use Rattle.std.proofs.shelf.Lists.{take-more, take-more-set, take-all, getD-take}
 use Rattle.weigh.proofs.weighing.Weighing.new.Needs as need
@@ -14,6 +16,10 @@ loop-p-again c =
       below-more _ _ (inv .2) (omega arith, omega arith),
     )
 
+-- there is a number
+not-empty : (c : After-loop-p) → 1 ≤ length (c .args .numbers .now)
+not-empty c = let some = eqb-false (length (c .args .numbers .now)) 0 (sym (c .is-empty .ensures) ∙ c .if-is-empty .left) in omega arith
+
 -- the weights are the numbers
 copied : (c : After-loop-p) → take (length (c .args .numbers .now)) (c .loop-p .weights) ≡ c .args .numbers .now
 copied c =
@@ -25,7 +31,7 @@ pub ghost-result : need.ghost-result
 ghost-result c =
     let numbers = c .args .numbers .now in
     let weights = c .loop-p .weights in (
-      (omega arith, omega arith),
+      (not-empty c, omega arith),
       (
         (λ k h.
             let same : getD weights k 0 ≡ getD numbers k 0 = sym (getD-take (length numbers) weights k 0 h) ∙ ap (λ xs. getD xs k 0) (copied c) in
@@ -36,4 +42,4 @@ ghost-result c =
     )
 
 pub returns : need.returns
-returns c = ((omega arith, omega arith, λ k h. c .loop-p .inv .2 k (omega arith)), copied (need.at·returns c .After-loop-p))
+returns c = ((not-empty (need.at·returns c .After-loop-p), omega arith, λ k h. c .loop-p .inv .2 k (omega arith)), copied (need.at·returns c .After-loop-p))

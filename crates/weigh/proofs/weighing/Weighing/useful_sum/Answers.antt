@@ -37,5 +37,5 @@ returns c =
     let m = marking (c .args .counts .now) in
     record {
       value = summed-all w (λ q. unitOf n q * (getD m q 0 / unitOf n q)) 4294967295000 (c .loop-p .p) (c .loop-p .sum) (omega arith) (c .loop-p .inv);
-      kept = keeps-useful n (weightsOf w) m (unit-is n);
+      kept = keeps-useful n (weightsOf w) (unit-is n);
     }

@@ -28,5 +28,5 @@ returns c =
     let m = marking (c .args .counts .now) in
     record {
       value = summed-all w (λ q. getD m q 0) 4294967295000 (c .loop-p .p) (c .loop-p .sum) (omega arith) (c .loop-p .inv);
-      kept = keeps-weighed (weightsOf w) m;
+      kept = keeps-weighed (weightsOf w);
     }

@@ -1,17 +1,20 @@
 // A record as text for a person.
-use crate::records::CertificateRecord;
-use crate::records::PlaceRecord;
-use crate::records::PlanRecord;
-use crate::records::WeighingRecord;
 use clause::Certificate;
 use clause::PlaceSet;
+use planrecord::CertificateRecord;
+use planrecord::PlaceRecord;
+use planrecord::PlanRecord;
+use planrecord::WeighingRecord;
 use std::fmt;
 use weigh::Balance;
 use weigh::Weighing;
 
+#[derive(Clone, Copy)]
+pub struct Text<'a>(pub &'a PlanRecord);
+
 fn write_place<W: fmt::Write>(
     f: &mut fmt::Formatter<W>,
-    p: usize,
+    p: u32,
     place: &PlaceRecord,
 ) -> fmt::Result {
     let count = place.count;
@@ -88,7 +91,7 @@ fn write_certificate<W: fmt::Write>(
 ) -> fmt::Result {
     write!(f, "certificate {slot}: ")?;
     match &shown.certificate {
-        Certificate::Blank => writeln!(f, "blank")?,
+        Certificate::Blank => writeln!(f, "blank\n  ceiling: none\n  numbers: none")?,
         Certificate::Ceiling { weighing, ceiling } => {
             writeln!(f, "ceiling\n  ceiling: {ceiling}")?;
             write_weights(f, weighing)?;
@@ -112,31 +115,27 @@ fn write_certificate<W: fmt::Write>(
     }
 }
 
-impl PlanRecord {
+impl Text<'_> {
     fn write_move<W: fmt::Write>(&self, f: &mut fmt::Formatter<W>, t: u32) -> fmt::Result {
         write!(f, "move {t}: takes")?;
-        if let Some(takes) = self.plan.takes_of(t) {
+        if let Some(takes) = self.0.plan.takes_of(t) {
             write_row(f, takes)?;
         }
         write!(f, "; gives")?;
-        if let Some(gives) = self.plan.gives_of(t) {
+        if let Some(gives) = self.0.plan.gives_of(t) {
             write_row(f, gives)?;
         }
-        if self.shows_fed(t) {
-            writeln!(f, "; fed")
-        } else {
-            writeln!(f)
-        }
+        if self.shows_fed(t) { writeln!(f, "; fed") } else { writeln!(f) }
     }
 
     // The bit of move t in the fed word.
     fn shows_fed(&self, t: u32) -> bool {
-        t < 32 && (self.fed_word >> t) & 1 == 1
+        t < 32 && (self.0.fed_word >> t) & 1 == 1
     }
 
     fn write_fed<W: fmt::Write>(&self, f: &mut fmt::Formatter<W>) -> fmt::Result {
-        let fed = self.fed_moves;
-        let moves = self.plan.moves();
+        let fed = self.0.fed_moves;
+        let moves = self.0.plan.moves();
         write!(f, "fed moves: {fed} of {moves}")?;
         for t in 0..moves {
             if self.shows_fed(t) {
@@ -147,19 +146,19 @@ impl PlanRecord {
     }
 }
 
-pub impl fmt::Display for PlanRecord as PlanRecordDisplay {
+pub impl fmt::Display for Text<'_> as TextDisplay {
     fn fmt<W: fmt::Write>(&self, f: &mut fmt::Formatter<W>) -> fmt::Result {
-        let places = self.plan.places();
-        let moves = self.plan.moves();
+        let places = self.0.plan.places();
+        let moves = self.0.plan.moves();
         writeln!(f, "plan: places {places}, moves {moves}")?;
-        for (p, place) in self.places.iter().enumerate() {
-            write_place(f, p, place)?;
+        for p in 0..places {
+            write_place(f, p, &self.0.places[p as usize])?;
         }
         for t in 0..moves {
             self.write_move(f, t)?;
         }
         self.write_fed(f)?;
-        write_certificate(f, 1, &self.first)?;
-        write_certificate(f, 2, &self.second)
+        write_certificate(f, 1, &self.0.first)?;
+        write_certificate(f, 2, &self.0.second)
     }
 }

@@ -1,5 +1,5 @@
 // A record's plan as Graphviz source: places are circles with their counts, moves are boxes, arcs have their weights.
-use crate::records::PlanRecord;
+use planrecord::PlanRecord;
 use std::fmt;
 
 #[derive(Clone, Copy)]
@@ -23,8 +23,8 @@ pub impl fmt::Display for Dot<'_> as DotDisplay {
     fn fmt<W: fmt::Write>(&self, f: &mut fmt::Formatter<W>) -> fmt::Result {
         let shown = self.0;
         writeln!(f, "digraph plan {{")?;
-        for (p, place) in shown.places.iter().enumerate() {
-            let count = place.count;
+        for p in 0..shown.plan.places() {
+            let count = shown.places[p as usize].count;
             writeln!(f, "    p{p} [shape=circle, label=\"place {p}\\n{count}\"];")?;
         }
         for t in 0..shown.plan.moves() {
