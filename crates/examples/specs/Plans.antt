@@ -1,6 +1,5 @@
 -- The nets of the example plans, move by move and place by place.
 use mathlib.Core.List.{[], _∷_}
-use Prim.Native.Nat.{ℕ}
 use Rattle.net.specs.Net.{Net}
 use Rattle.net.specs.Model.{spelled}
 

@@ -1,6 +1,6 @@
 -- What holds of each element of a list, after one more is written.
 use borrow.Author.Count.{below-more}
-use mathlib.Core.Path.{_≡_, sym, subst}
+use mathlib.Core.Path.{sym, subst}
 use mathlib.Core.List.{List}
 use mathlib.Core.Logic.{_≢_}
 use Prim.Native.Nat.{ℕ, _+_, _<_}

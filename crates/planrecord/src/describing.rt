@@ -67,7 +67,13 @@ fn certificate_record(plan: &Plan, counts: &Counts, certificate: Certificate) ->
 pub fn describe(bytes: &[u8]) -> Result<PlanRecord, Refusal>
     ensures { λ r. ⌜ IsDescription (now (bytes .entry)) r ⌝ }
 {
-    let Sheet { state: _, plan, counts, first, second } = sheet::read(bytes)?;
+    let Sheet {
+        state: _,
+        plan,
+        counts,
+        first,
+        second,
+    } = sheet::read(bytes)?;
     Ok(PlanRecord {
         places: place_records(&plan, &counts),
         fed_word: plan.fed_word(&counts),

@@ -125,7 +125,11 @@ impl Text<'_> {
         if let Some(gives) = self.0.plan.gives_of(t) {
             write_row(f, gives)?;
         }
-        if self.shows_fed(t) { writeln!(f, "; fed") } else { writeln!(f) }
+        if self.shows_fed(t) {
+            writeln!(f, "; fed")
+        } else {
+            writeln!(f)
+        }
     }
 
     // The bit of move t in the fed word.

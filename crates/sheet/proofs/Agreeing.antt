@@ -13,7 +13,6 @@ use Rattle.net.specs.Model.{net, Same, cellAt}
 use Rattle.net.specs.Marking.{marking}
 use Rattle.net.specs.declared.plan.Plan.{Plan}
 use Rattle.net.proofs.Rows.{arc-past, arc-none}
-use Rattle.clause.specs.Kinds.{codeOf}
 use Rattle.clause.specs.Certificates.{Values, valuesOf}
 use Rattle.clause.specs.declared.certificate.Certificate.{Certificate}
 use Rattle.clause.specs.declared.certificate.Certificate.the-variants.{Blank, Ceiling, NeverStuck, DeadSet, KeptSet}
@@ -27,7 +26,6 @@ use Rattle.sheet.specs.Questions.{Wrong, Lawful, FirstWrong}
 use Rattle.sheet.specs.Spelled.{SpellsNet, SpellsCertificate, Spells, IsReading}
 use Rattle.sheet.specs.Agreed.{SameSheet, SameAnswer}
 use Rattle.sheet.specs.declared.sheets.Sheet.{Sheet}
-use Rattle.sheet.proofs.Asked.{same-code}
 
 -- no other first no asks later, or lies higher
 not-later : {bytes : List ℕ} {a s b t : ℕ} → FirstWrong bytes a s → FirstWrong bytes b t → a < b → ⊥

@@ -1,6 +1,6 @@
 -- A list that is filled from the front with what a function gives.
 use borrow.Author.Count.{below-more}
-use mathlib.Core.Path.{_≡_, _∙_}
+use mathlib.Core.Path.{_≡_}
 use mathlib.Core.List.{List}
 use mathlib.Core.Logic.{_≢_}
 use Prim.Native.Nat.{ℕ, _+_, _<_}

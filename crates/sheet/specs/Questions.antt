@@ -3,7 +3,7 @@ use mathlib.Core.Path.{_≡_}
 use mathlib.Core.Bool.{false}
 use mathlib.Core.List.{List, [], _∷_}
 use mathlib.Core.Logic.{_⊎_}
-use Prim.Native.Nat.{ℕ, _+_, _*_, min, _<_}
+use Prim.Native.Nat.{ℕ, _*_, min, _<_}
 use lib.ListN.{length, getD}
 use Rattle.sheet.specs.Layout.{word16, word64, placesIn, movesIn, firstCode, secondCode, arcsIn, arcAt, firstAt, secondAt, numberAt, sizeOf}
 use Rattle.clause.specs.Kinds.{codeOf, lawfulNumber, lawfulCeiling}

@@ -1,7 +1,7 @@
 // The parts of a sheet after its header: the fifth and the sixth question.
 ghost use mathlib.Core.Path.{_≡_};
-ghost use Prim.Native.Nat.{ℕ, _+_, _*_, _<_, _≤_};
-ghost use lib.ListN.{length, getD};
+ghost use Prim.Native.Nat.{_+_, _*_, _≤_};
+ghost use lib.ListN.{length};
 ghost use Rattle.std.specs.Results.{Cases as ByOk};
 ghost use Rattle.net.specs.Model.{net};
 ghost use Rattle.net.specs.Marking.{marking};

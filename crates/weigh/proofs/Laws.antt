@@ -7,7 +7,7 @@ use native.Mathlib.Nat.{mul-add, mul-div-cancel', add-mul-div-left}
 use native.Mathlib.Omega.{arith}
 use lib.ListN.{length, getD}
 use Rattle.std.proofs.shelf.Tests.{cases-eq}
-use Rattle.net.specs.Net.{Net, Fires}
+use Rattle.net.specs.Net.{Net}
 use Rattle.net.specs.Sums.{sum}
 use Rattle.net.specs.Divisors.{IsUnit, unitOf}
 use Rattle.weigh.specs.Balance.{Idle, takenWeight, givenWeight, Balances, FiringKeepsWeighed, FiringKeepsUseful}

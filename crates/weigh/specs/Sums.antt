@@ -1,5 +1,4 @@
 -- The weighed and the useful sum of counts. Weights are a list of numbers, one for each place.
-use mathlib.Core.Path.{_≡_}
 use mathlib.Core.List.{List}
 use Prim.Native.Nat.{ℕ, _*_, _/_}
 use lib.ListN.{length, getD}

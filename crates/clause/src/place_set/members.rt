@@ -1,7 +1,7 @@
 // How a set of places is made, and which places are in it.
 ghost use mathlib.Core.Path.{_≡_};
 ghost use mathlib.Core.Bool.{false};
-ghost use Prim.Native.Nat.{ℕ, _<_, _≤_};
+ghost use Prim.Native.Nat.{_≤_};
 ghost use lib.ListN.{length, getD};
 ghost use Rattle.std.specs.Options.{Cases as BySome};
 ghost use Rattle.clause.specs.Sets.{membersOf, memberNumbers, AreMembers};

@@ -1,6 +1,5 @@
 // Which moves are fed.
 ghost use mathlib.Core.Path.{_≡_};
-ghost use Prim.Native.Nat.{ℕ, _<_, _≤_};
 ghost use Rattle.std.specs.Orderings.{When};
 ghost use Rattle.net.specs.Net.{Fed};
 ghost use Rattle.net.specs.Fed.{isFed, IsFedWord, fedMoves};

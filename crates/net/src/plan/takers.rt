@@ -1,6 +1,5 @@
 // The largest and the least take of a place.
 ghost use mathlib.Core.Path.{_≡_};
-ghost use Prim.Native.Nat.{ℕ, _<_, _≤_};
 ghost use Rattle.std.specs.Options.{Cases as BySome};
 ghost use Rattle.net.specs.Takes.{NoTaker, largestTake, leastTake, IsLargestTake, IsLeastTake, lesserTake};
 ghost use Rattle.net.specs.Model.{net};

@@ -1,7 +1,6 @@
 // The unit of a place.
 ghost use mathlib.Core.Path.{_≡_};
-ghost use Prim.Native.Nat.{ℕ, _<_, _≤_};
-ghost use Rattle.net.specs.Divisors.{gcdOf, IsGcd, unitOf, IsUnit};
+ghost use Rattle.net.specs.Divisors.{IsGcd, unitOf, IsUnit};
 ghost use Rattle.net.specs.Model.{net};
 use super::Plan;
 

@@ -1,6 +1,6 @@
 // Whether a weighing balances a plan.
 ghost use mathlib.Core.Path.{_≡_};
-ghost use Prim.Native.Nat.{ℕ, _<_, _≤_};
+ghost use Prim.Native.Nat.{ℕ};
 ghost use lib.ListN.{length, getD};
 ghost use Rattle.std.specs.Orderings.{When};
 ghost use Rattle.net.specs.Model.{net};

@@ -1,7 +1,6 @@
 // The weighed and the useful sum.
 ghost use mathlib.Core.Path.{_≡_};
-ghost use Prim.Native.Nat.{ℕ, _*_, _/_, _<_, _≤_};
-ghost use lib.ListN.{length, getD};
+ghost use Prim.Native.Nat.{_*_, _/_, _<_, _≤_};
 ghost use Rattle.net.specs.Marking.{marking};
 ghost use Rattle.net.specs.Model.{net};
 ghost use Rattle.weigh.specs.Weights.{weightsOf};

@@ -1,5 +1,5 @@
 use native.Mathlib.Omega.{arith}
-use Prim.Native.Nat.{ℕ, _+_, _*_}
+use Prim.Native.Nat.{_+_, _*_}
 use lib.ListN.{length-replicate}
 use Rattle.sheet.specs.Layout.{word32}
 use Rattle.sheet.proofs.Fills.{filled-more}

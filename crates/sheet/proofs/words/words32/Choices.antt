@@ -1,4 +1,4 @@
-use Prim.Native.Nat.{ℕ, _+_, _*_}
+use Prim.Native.Nat.{_+_, _*_}
 use Rattle.sheet.specs.Layout.{word32}
 use Rattle.sheet.proofs.Fills.{Filled}
 use Rattle.sheet.proofs.words.words32.Given as given

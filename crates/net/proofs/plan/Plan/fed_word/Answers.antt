@@ -3,12 +3,11 @@ use native.Mathlib.Omega.{arith}
 use mathlib.Core.Path.{_≡_, refl, sym, ap, _∙_}
 use mathlib.Core.Bool.{Bool, true, false, cond}
 use mathlib.Core.Logic.{⊎-elim}
-use Prim.Native.Nat.{ℕ, _+_, _^_, _<_, _≤_}
+use Prim.Native.Nat.{ℕ, _+_, _^_, _<_}
 use lib.Dec.{lit<}
 use lib.Count.{ones}
 use Rattle.std.proofs.shelf.Bits.{pow-add}
 use Rattle.std.proofs.shelf.Tests.{cases-lt}
-use Rattle.net.specs.Net.{Fed}
 use Rattle.net.specs.Fed.{bit, isFed}
 use Rattle.net.specs.Sums.{howMany}
 use Rattle.net.specs.Marking.{marking}

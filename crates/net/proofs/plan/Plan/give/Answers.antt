@@ -1,7 +1,5 @@
 use native.Mathlib.Omega.{arith}
 use mathlib.Core.Path.{_≡_, refl, sym, _∙_}
-use Prim.Native.Nat.{_≤_}
-use lib.ListN.{getD}
 use Rattle.net.specs.Model.{cellAt}
 use Rattle.net.proofs.Rows.{row-entry, arc-light, arc-none}
 use Rattle.net.proofs.plan.Plan.give.Needs as need

@@ -1,6 +1,5 @@
 use native.Mathlib.Omega.{arith}
-use mathlib.Core.Path.{sym, _∙_}
-use Rattle.net.proofs.Rows.{row-within, arcs-within, arc-in}
+use Rattle.net.proofs.Rows.{row-within, arcs-within}
 use Rattle.net.proofs.plan.Plan.gives_of.Needs as need
 
 pub row-of-requires : need.row-of-requires

@@ -1,5 +1,5 @@
 use native.Mathlib.Omega.{arith}
-use mathlib.Core.Path.{_≡_, sym}
+use mathlib.Core.Path.{sym}
 use Rattle.net.specs.Net.{Fed}
 use Rattle.net.specs.Marking.{marking}
 use Rattle.net.specs.Model.{net}

@@ -1,6 +1,6 @@
 use native.Mathlib.Omega.{arith}
 use mathlib.Core.Path.{_≡_, refl, sym, ap, subst, _∙_}
-use Prim.Native.Nat.{ℕ, max}
+use Prim.Native.Nat.{max}
 use Rattle.net.specs.Takes.{largestBelow, largestTake, IsLargestTake}
 use Rattle.net.specs.Model.{net}
 use Rattle.net.proofs.Takers.{largest-more, largest-none, largest-is}

@@ -1,6 +1,5 @@
 use native.Mathlib.Omega.{arith}
 use mathlib.Core.Path.{_≡_, refl, sym, ap, subst, _∙_}
-use Prim.Native.Nat.{ℕ}
 use Rattle.net.specs.Takes.{leastBelow, leastTake, IsLeastTake, lesserTake}
 use Rattle.net.specs.Model.{net}
 use Rattle.net.proofs.Takers.{least-more, least-none, least-is}

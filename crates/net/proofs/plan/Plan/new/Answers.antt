@@ -1,9 +1,7 @@
-use borrow.Author.Needs.{needs}
 use native.Mathlib.Omega.{arith}
-use mathlib.Core.Path.{_≡_, refl, sym, _∙_}
-use Prim.Native.Nat.{_≤_, _*_}
+use mathlib.Core.Path.{_∙_}
 use Rattle.std.proofs.shelf.Lists.{getD-past}
-use Rattle.net.proofs.Rows.{arcs-within, same-arcs}
+use Rattle.net.proofs.Rows.{arcs-within}
 use Rattle.net.proofs.plan.Plan.new.Needs as need
 
 pub padded-requires : need.padded-requires

@@ -2,7 +2,7 @@ use borrow.Author.Needs.{needs}
 use native.Mathlib.Omega.{arith}
 use mathlib.Core.Path.{_≡_, refl, sym, ap, _∙_}
 use mathlib.Core.Logic.{inl, inr, ⊎-elim}
-use Prim.Native.Nat.{ℕ, min, _+_, _*_, _≤_}
+use Prim.Native.Nat.{min, _+_, _*_}
 use lib.ListN.{length}
 use Rattle.sheet.specs.Layout.{placesIn, movesIn, firstCode, sizeOf}
 use Rattle.sheet.specs.Questions.{Outside}
