@@ -4,6 +4,7 @@ pub enum Layer {
     Sheet,
     Opening,
     Run,
+    // tape and filing
     Tape,
 }
 
