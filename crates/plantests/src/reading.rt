@@ -344,3 +344,18 @@ fn sets_and_blanks() -> Result<(), Fail> {
     }
     Ok(())
 }
+
+// 16 places and 32 moves: 2,196 bytes, with a ceiling whose weights begin at 2,124.
+#[test]
+fn the_largest_sheet() -> Result<(), Fail> {
+    let mut bytes = [0u8; 2196];
+    bytes[0] = 16;
+    bytes[1] = 32;
+    bytes[2] = 1;
+    check_eq(answer(&bytes), (6, 0, 2124))?;
+    for p in 0..16usize {
+        bytes[2124 + 2 * p] = 1;
+    }
+    check_eq(answer(&bytes), (0, 0, 0))?;
+    check_eq(answer(&bytes[0..2195]), (4, 0, 2195))
+}
