@@ -1,5 +1,5 @@
 -- A board on numbers.
-use Rattle.std.proofs.Common.{◌≡◌, ℕ, zero, suc, ◌<◌, List, [], ◌∷◌, length, get_or, take, drop, set, sym, refl, ap, ◌∙◌, arith, length-set, length-take}
+use Rattle.std.proofs.Common.{◌≡◌, ℕ, zero, suc, ◌<◌, List, [], ◌∷◌, length, get_or, take, set, sym, refl, ap, ◌∙◌, arith, length-set, length-take}
 use Rattle.std.proofs.lemmas.List.{get_or-take, drop-set-lt}
 use Rattle.board.specs.Numbers.{number_counts, number_limits, numbers_past}
 use Rattle.board.proofs.EvenLimits.{even-same}

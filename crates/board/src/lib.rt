@@ -1,4 +1,6 @@
 // Boards: where counts live. The meaning of a board that can be read and of one that can be written, and the boards that stand by themselves.
+#![tactic(auto)]
+
 mod bytes;
 mod filed;
 mod meaning;

@@ -7,7 +7,7 @@ use net::Counts;
 
 // The count at a place.
 pub fn held<B: ReadBoard>(board: &B, p: u32) -> u32
-    ensures { result ≡ slice_index (counts board.now) p }
+    ensures { result ≡ slice_index (B.counts board.now) p }
 {
     let Some(n) = board.count(p) else {
         return 0;
@@ -28,7 +28,7 @@ pub fn limit_at<B: Board>(board: &B, p: u32) -> u32
 
 // All counts, as a value that can be read like the board.
 pub fn copied<B: ReadBoard>(board: &B) -> Counts
-    ensures { marking result ≡ counts board.now }
+    ensures { marking result ≡ B.counts board.now }
 {
     let places = board.places();
     let mut numbers = [0u32; 16];

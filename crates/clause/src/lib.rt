@@ -1,4 +1,6 @@
 // Certificates as data: five kinds, with a weighing or a set of places.
+#![tactic(auto)]
+
 mod certificate;
 mod kind;
 mod place_set;

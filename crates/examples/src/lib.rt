@@ -1,4 +1,6 @@
 // Example plans, and the table of worked examples that are proved of the definitions.
+#![tactic(auto)]
+
 ghost use Rattle.net.specs.Model.{net, Same};
 ghost use Rattle.examples.specs.Plans.{net_of_three_moves};
 ghost use Rattle.examples.specs.Table.{WorkedExamples};

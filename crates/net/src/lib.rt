@@ -1,4 +1,6 @@
 // Plans (weighted Petri nets), counts (markings), and which moves are fed.
+#![tactic(auto)]
+
 mod counts;
 mod plan;
 mod read_plan;

@@ -1,4 +1,6 @@
 // A sheet as a record: the plan, its filed counts and its certificates, with what follows from them.
+#![tactic(auto)]
+
 mod describing;
 mod records;
 mod stock;

@@ -1,4 +1,6 @@
 // Shows plan sheets: planshow [dot] [FILE ..], plan.sheet where no file is named.
+#![tactic(auto)]
+
 use plantext::{Dot, Text};
 use std::io::ErrorKind;
 use std::{env, fs, io};

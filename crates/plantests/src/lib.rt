@@ -1,4 +1,6 @@
 // Examples of what reading and showing a sheet answer.
+#![tactic(auto)]
+
 #[cfg(test)]
 mod reading;
 #[cfg(test)]

@@ -1,4 +1,6 @@
 // A record as text for a person, its plan as Graphviz source, and its stock as text.
+#![tactic(auto)]
+
 mod dot;
 mod stock;
 mod text;

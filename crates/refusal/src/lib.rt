@@ -1,4 +1,6 @@
 // What can be refused, by the layer that finds it. Each refusal has a number, a slot and a spot.
+#![tactic(auto)]
+
 mod answers;
 mod refusals;
 

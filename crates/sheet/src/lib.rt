@@ -1,4 +1,6 @@
 // Sheets: a plan, its filed counts and its two certificates as bytes.
+#![tactic(auto)]
+
 mod fields;
 mod header;
 mod reading;

@@ -1,4 +1,6 @@
 // A board in units of a plan, on any board below it.
+#![tactic(auto)]
+
 mod parts;
 mod units_board;
 

@@ -1,4 +1,6 @@
 // Weighings (weight vectors over the places of a plan), the sums under them, and when they balance a plan.
+#![tactic(auto)]
+
 mod balance;
 mod weighing;
 

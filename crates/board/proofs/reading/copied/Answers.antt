@@ -1,4 +1,4 @@
-use Rattle.std.proofs.Common.{◌≡◌, ◌-◌, length, get_or, take, ap, ◌∙◌, arith, length-take}
+use Rattle.std.proofs.Common.{◌≡◌, ◌-◌, take, ap, ◌∙◌, arith, length-take}
 use Rattle.std.proofs.lemmas.List.{ext_get_or, get_or-take}
 use Rattle.board.proofs.reading.copied.Goals as goal
 

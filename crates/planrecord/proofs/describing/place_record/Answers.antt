@@ -10,6 +10,6 @@ pub returns : goal.returns
 returns c = record {
   count = c.held.ensures;
   unit = c.unit.ensures.unit;
-  least = second-fact c.least-take.result _ _ _ c.least-take.ensures;
-  largest = second-fact c.largest-take.result _ _ _ c.largest-take.ensures;
+  least = second-fact c.least_take.result _ _ _ c.least_take.ensures;
+  largest = second-fact c.largest_take.result _ _ _ c.largest_take.ensures;
 }

@@ -9,8 +9,8 @@ pub loop-p-preserved : goal.loop-p-preserved
 loop-p-preserved c =
     let inv = c.loop-p.invariant in (
       simp length-set inv.0,
-      written-each (DescribesPlace (net c.args.plan.now) (marking c.args.counts.now)) c.loop-p.places c.loop-p.p c.place-record.result
-          (omega (arith, inv.0)) inv.1 c.place-record.ensures,
+      written-each (DescribesPlace (net c.args.plan.now) (marking c.args.counts.now)) c.loop-p.places c.loop-p.p c.place_record.result
+          (omega (arith, inv.0)) inv.1 c.place_record.ensures,
     )
 
 pub returns : goal.returns

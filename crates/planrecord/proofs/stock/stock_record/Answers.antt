@@ -18,9 +18,9 @@ returns-in-Ok g c =
     let same_limits : limits' ≡ limits = ap (λ frame. frame.limits) accepted.kept in
     record {
       stock = record {
-        limit = c.limit-at-limit.ensures.value;
-        parts = booked n limits before (g.B.ReadBoard.counts last.below.now) last.rests c.args.p c.args.count c.limit-at-limit.ensures.paired n' limits' c.in-units-parts.result
-            same_plan same_limits accepted.counts.0 accepted.counts.1 c.in-units-parts.ensures;
+        limit = c.limit_at-limit.ensures.value;
+        parts = booked n limits before (g.B.ReadBoard.counts last.below.now) last.rests c.args.p c.args.count c.limit_at-limit.ensures.paired n' limits' c.in_units-parts.result
+            same_plan same_limits accepted.counts.0 accepted.counts.1 c.in_units-parts.ensures;
       };
       plan = same_plan;
       limits = same_limits;
@@ -36,8 +36,8 @@ returns-in-Err g c =
     let kept = c.in-Err.ensures.kept in
     record {
       stock = record {
-        limit = c.limit-at-limit.ensures.value;
-        parts = refused n limits before counts first.rests c.args.p c.args.count c.limit-at-limit.ensures.paired c.in-Err.ensures.counts.0;
+        limit = c.limit_at-limit.ensures.value;
+        parts = refused n limits before counts first.rests c.args.p c.args.count c.limit_at-limit.ensures.paired c.in-Err.ensures.counts.0;
       };
       plan = ap (λ frame. frame.plan) kept;
       limits = ap (λ frame. frame.limits) kept;

@@ -28,7 +28,7 @@ number-test : (c : After-words16-numbers) (p : ℕ) → p < places_in c.args.byt
 number-test c p h = ap (lawful_number c.args.kind) (sym ((numbers-read c).1 p h))
 
 ceiling-lawful : (c : After-words16-numbers) → lawful_ceiling c.args.kind (word64 c.args.bytes.now c.args.start) ≡ true
-ceiling-lawful c = ap (lawful_ceiling c.args.kind) (sym c.word64-ceiling.ensures) ∙ sym c.if-not-admits-ceiling.ensures
+ceiling-lawful c = ap (lawful_ceiling c.args.kind) (sym c.word64-ceiling.ensures) ∙ sym c.if-not-admits_ceiling.ensures
 
 pub returns-in-Some : goal.returns-in-Some
 returns-in-Some c =

@@ -70,21 +70,21 @@ returns-in-Some c =
       before = λ j h. omega (arith, takes.1 j (omega arith), found.2 j h);
     }
 
-pub returns-in-Some-first-heavy : goal.returns-in-Some-first-heavy
-returns-in-Some-first-heavy c =
-    let before = (goal.at.returns-in-Some-first-heavy c).After-words16-gives in
+pub returns-in-Some-first_heavy : goal.returns-in-Some-first_heavy
+returns-in-Some-first_heavy c =
+    let before = (goal.at.returns-in-Some-first_heavy c).After-words16-gives in
     let rows = rows-read before in
-    let found = c.in-Some-first-heavy.ensures in
+    let found = c.in-Some-first_heavy.ensures in
     let arcs = arcs_in c.args.bytes.now in
     let is = arcs-read before in
-    let k = c.in-Some-first-heavy.k in
+    let k = c.in-Some-first_heavy.k in
     let within : k < arcs = omega (arith, rows.gives.0) in
     record {
       index = arcs + k;
       at = omega arith;
       within = omega arith;
       heavy = omega (arith, rows.gives.1 k within);
-      before = light-arcs rows c.in-default.ensures k (omega arith) found.2;
+      before = light-arcs rows c.in_default.ensures k (omega arith) found.2;
     }
 
 pub unreachable-requires : goal.unreachable-requires
@@ -97,15 +97,15 @@ unreachable-requires c =
       few_moves = omega arith;
       takes_long = rows.takes.0 ∙ sym (arcs-of c.requires);
       gives_long = rows.gives.0 ∙ sym (arcs-of c.requires);
-      takes_light = bounded _ 1000 c.in-default.ensures;
-      gives_light = bounded _ 1000 c.in-default-first-heavy.ensures;
+      takes_light = bounded _ 1000 c.in_default.ensures;
+      gives_light = bounded _ 1000 c.in_default-first_heavy.ensures;
     })
 
 pub returns : goal.returns
 returns c =
     let rows = rows-read (goal.at.returns c).After-words16-gives in
     let arcs = arcs_in c.args.bytes.now in
-    let light_gives = c.in-default-first-heavy.ensures in (
-      (λ k h. light-arcs rows c.in-default.ensures arcs (omega arith) (λ j below. light_gives j (omega (arith, rows.gives.0))) k (omega arith)),
+    let light_gives = c.in_default-first_heavy.ensures in (
+      (λ k h. light-arcs rows c.in_default.ensures arcs (omega arith) (λ j below. light_gives j (omega (arith, rows.gives.0))) k (omega arith)),
       spells-net rows (net c.in-Some-new.plan) c.args.header.now.places c.args.header.now.moves c.in-Some-new.ensures.1 c.requires.places c.requires.moves,
     )

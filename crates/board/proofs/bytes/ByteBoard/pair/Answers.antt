@@ -13,4 +13,4 @@ pub returns-then-p-places : goal.returns-then-p-places
 returns-then-p-places c =
     let bytes = c.args.self.now.bytes.now in
     let there : c.args.p < length (byte_counts bytes) = omega arith in
-    (there, omega (arith, c.from-le-bytes.ensures, count_at bytes c.args.p there))
+    (there, omega (arith, c.from_le_bytes.ensures, count_at bytes c.args.p there))

@@ -26,11 +26,11 @@ returns c =
     let bytes = c.args.self.now.bytes.now in
     let p = c.args.p in
     let n = c.args.n in
-    let low = get_or c.to-le-bytes.result 0 0 in
-    let high = get_or c.to-le-bytes.result 1 0 in
+    let low = get_or c.to_le_bytes.result 0 0 in
+    let high = get_or c.to_le_bytes.result 1 0 in
     let there : p < length (byte_counts bytes) = omega arith in
     let small : n ≤ 65535 = omega arith in
-    let spells : low + high * 256 ≡ n = ap (λ pair. get_or pair 0 0 + get_or pair 1 0 * 256) c.to-le-bytes.ensures ∙ spelled n small in
+    let spells : low + high * 256 ≡ n = ap (λ pair. get_or pair 0 0 + get_or pair 1 0 * 256) c.to_le_bytes.ensures ∙ spelled n small in
     record {
       counts = (even-holds (byte_counts bytes) 65535 p n there small, counts-after bytes p there low high ∙ ap (set (byte_counts bytes) p) spells);
       limits = limits-after bytes p there low high;

@@ -11,10 +11,10 @@ weight-at ws p (Some n) found = found.1
 weight-at ws p None past = sym (get_or_past ws p 0 past)
 
 pub returns-in-Ceiling : goal.returns-in-Ceiling
-returns-in-Ceiling c = rw c.in-Ceiling.is (c.unwrap-or.ensures ∙ weight-at _ _ _ c.weight.ensures)
+returns-in-Ceiling c = rw c.in-Ceiling.is (c.unwrap_or.ensures ∙ weight-at _ _ _ c.weight.ensures)
 
 pub returns-in-NeverStuck : goal.returns-in-NeverStuck
-returns-in-NeverStuck c = rw c.in-NeverStuck.is (c.unwrap-or-in-NeverStuck.ensures ∙ weight-at _ _ _ c.weight-in-NeverStuck.ensures)
+returns-in-NeverStuck c = rw c.in-NeverStuck.is (c.unwrap_or-in-NeverStuck.ensures ∙ weight-at _ _ _ c.weight-in-NeverStuck.ensures)
 
 pub returns-in-DeadSet : goal.returns-in-DeadSet
 returns-in-DeadSet c =

@@ -9,7 +9,7 @@ use Rattle.net.specs.Model.{net}
 use Rattle.net.proofs.Tests.{not-fed}
 use Rattle.net.proofs.Words.{or-top, ones-top, bit-low, bit-top, bit_past, how_many-more}
 use Rattle.net.proofs.plan.Plan.fed_word.Goals as goal
-use Rattle.net.proofs.plan.Plan.fed_word.Goals.{then-is-fed, else-is-fed}
+use Rattle.net.proofs.plan.Plan.fed_word.Goals.{then-is_fed, else-is_fed}
 
 -- a word of the first t tests
 Spells : (ℕ → Bool) → ℕ → ℕ → Type 0
@@ -41,11 +41,11 @@ loop-t-preserved c =
     let f = is_fed (net c.args.self.now) (marking c.args.counts.now) in
     let t = c.loop-t.t in
     let word = c.loop-t.word in
-    elim c.if-is-fed.branch [
-      | then-is-fed w ↦
-          let e : c.if-is-fed.word ≡ 2 ^ t + word = w.word-is ∙ or-top word t (omega arith) c.loop-t.invariant.0 in
-          rw e (spells_one f t word (sym c.is-fed.ensures.value ∙ w.if-is-fed.true) c.loop-t.invariant)
-      | else-is-fed w ↦ rw w.word-is (spells-none f t word (sym c.is-fed.ensures.value ∙ w.if-is-fed.false) c.loop-t.invariant)
+    elim c.if-is_fed.branch [
+      | then-is_fed w ↦
+          let e : c.if-is_fed.word ≡ 2 ^ t + word = w.word-is ∙ or-top word t (omega arith) c.loop-t.invariant.0 in
+          rw e (spells_one f t word (sym c.is_fed.ensures.value ∙ w.if-is_fed.true) c.loop-t.invariant)
+      | else-is_fed w ↦ rw w.word-is (spells-none f t word (sym c.is_fed.ensures.value ∙ w.if-is_fed.false) c.loop-t.invariant)
     ]
 
 pub returns : goal.returns

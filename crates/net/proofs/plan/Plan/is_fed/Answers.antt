@@ -5,11 +5,11 @@ use Rattle.net.specs.Model.{net}
 use Rattle.net.proofs.Tests.{not-fed, tests-fed}
 use Rattle.net.proofs.plan.Plan.is_fed.Goals as goal
 
-pub returns-in-default : goal.returns-in-default
-returns-in-default c =
+pub returns-in_default : goal.returns-in_default
+returns-in_default c =
     let n = net c.args.self.now in
     let m = marking c.args.counts.now in
-    let unfed : Fed n m c.args.t → ⊥ = λ f. let past = c.in-default.ensures in omega (arith, f.0) in
+    let unfed : Fed n m c.args.t → ⊥ = λ f. let past = c.in_default.ensures in omega (arith, f.0) in
     record { value = sym (not-fed n m c.args.t unfed); fed = unfed }
 
 pub returns-then-held-from : goal.returns-then-held-from

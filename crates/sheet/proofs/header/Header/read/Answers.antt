@@ -3,10 +3,10 @@ use Rattle.sheet.specs.Layout.{places_in, moves_in, first_code, size_of}
 use Rattle.sheet.specs.Questions.{Outside}
 use Rattle.sheet.proofs.Asked.{Passed, passed-short, passed-size, passed-kind, inside, code-low}
 use Rattle.sheet.proofs.header.Header.read.Goals as goal
-use Rattle.sheet.proofs.header.Header.read.Goals.{After-first-kind, In-Some, After-size-size}
+use Rattle.sheet.proofs.header.Header.read.Goals.{After-first_kind, In-Some, After-size-size}
 
 -- the first two questions got a yes
-sized : (c : After-first-kind) → Passed c.args.bytes.now 3
+sized : (c : After-first_kind) → Passed c.args.bytes.now 3
 sized c =
     let bytes = c.args.bytes.now in
     let places = c.from-places.ensures in
@@ -28,18 +28,18 @@ size-asked c =
     ∙ ap (λ p. 20 + 8 * p + 4 * (c.from-moves.result * p)) c.from-places.ensures
     ∙ ap (λ t. 20 + 8 * places_in bytes + 4 * (t * places_in bytes)) c.from-moves.ensures
 
-pub returns-in-default-first-kind : goal.returns-in-default-first-kind
-returns-in-default-first-kind c = record {
-  wrong = inl (refl, c.in-default-first-kind.ensures);
-  before = sized (goal.at.returns-in-default-first-kind c).After-first-kind;
+pub returns-in_default-first_kind : goal.returns-in_default-first_kind
+returns-in_default-first_kind c = record {
+  wrong = inl (refl, c.in_default-first_kind.ensures);
+  before = sized (goal.at.returns-in_default-first_kind c).After-first_kind;
   lowest = λ lower h. ⊎_elim (λ w. omega (arith, w.0)) (λ w. omega (arith, w.0));
 }
 
-pub returns-in-default-from-code : goal.returns-in-default-from-code
-returns-in-default-from-code c = record {
-  wrong = inr (refl, c.in-default-from-code.ensures);
-  before = sized (goal.at.returns-in-default-from-code c).After-first-kind;
-  lowest = λ lower h. ⊎_elim (λ w. first-lawful (goal.at.returns-in-default-from-code c).In-Some w.1) (λ w. omega (arith, w.0));
+pub returns-in_default-from_code : goal.returns-in_default-from_code
+returns-in_default-from_code c = record {
+  wrong = inr (refl, c.in_default-from_code.ensures);
+  before = sized (goal.at.returns-in_default-from_code c).After-first_kind;
+  lowest = λ lower h. ⊎_elim (λ w. first-lawful (goal.at.returns-in_default-from_code c).In-Some w.1) (λ w. omega (arith, w.0));
 }
 
 pub returns-then-bytes-size : goal.returns-then-bytes-size
@@ -47,12 +47,12 @@ returns-then-bytes-size c =
     let bytes = c.args.bytes.now in
     let at = goal.at.returns-then-bytes-size c in
     let size = size-asked at.After-size-size in
-    let two = c.in-Some-from-code.ensures in
-    let low = code-low c.in-Some-from-code.second in
+    let two = c.in-Some-from_code.ensures in
+    let low = code-low c.in-Some-from_code.second in
     let spot : c.min.result ≡ min (length bytes) (size_of bytes) = c.min.ensures ∙ ap (min (length bytes)) size in
     record {
       wrong = (spot, λ same. c.if-bytes-size.true (same ∙ sym size));
-      before = passed-kind bytes (sized at.After-first-kind) (first-lawful at.In-Some) (omega arith);
+      before = passed-kind bytes (sized at.After-first_kind) (first-lawful at.In-Some) (omega arith);
       lowest = λ lower h w. omega (arith, w.0);
     }
 
@@ -72,6 +72,6 @@ returns c =
       few_moves = omega arith;
       first = one.0;
       first_used = one.1;
-      second = c.in-Some-from-code.ensures;
+      second = c.in-Some-from_code.ensures;
       size = c.if-bytes-size.false ∙ size-asked at.After-size-size;
     }

@@ -4,15 +4,15 @@ use Rattle.net.specs.Model.{net}
 use Rattle.units.specs.Units.{unit_over_limit}
 use Rattle.units.proofs.units_board.UnitsBoard.scale.Goals as goal
 
-pub returns-in-err-limit : goal.returns-in-err-limit
-returns-in-err-limit g c =
-    let absent = c.in-err-limit.ensures in
+pub returns-in_err-limit : goal.returns-in_err-limit
+returns-in_err-limit g c =
+    let absent = c.in_err-limit.ensures in
     rw c.from-residual.ensures (absent.value, absent.paired)
 
 pub returns : goal.returns
 returns g c =
-    let most = c.in-ok-limit.ensures in
-    let over = c.unit-over.ensures in
+    let most = c.in_ok-limit.ensures in
+    let over = c.unit_over.ensures in
     record {
       there = most.value.0;
       paired = most.paired;

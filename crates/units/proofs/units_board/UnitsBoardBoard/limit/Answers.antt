@@ -4,13 +4,13 @@ use Rattle.units.specs.Units.{unit_at}
 use Rattle.units.proofs.Scaled.{paired, limits-long, limit-at, count-within, none_within}
 use Rattle.units.proofs.units_board.UnitsBoardBoard.limit.Goals as goal
 
-pub returns-in-err-scale : goal.returns-in-err-scale
-returns-in-err-scale g c =
+pub returns-in_err-scale : goal.returns-in_err-scale
+returns-in_err-scale g c =
     let self = c.args.self.now in
     let n = net self.plan.now in
     let limits = g.B.Board.limits self.below.now in
     let counts = g.B.ReadBoard.counts self.below.now in
-    let absent = c.in-err-scale.ensures in
+    let absent = c.in_err-scale.ensures in
     record {
       value = rw c.from-residual.ensures (omega (arith, limits-long n limits, absent.0));
       paired = paired n limits counts self.rests absent.1;
@@ -24,8 +24,8 @@ returns g c =
     let limits = g.B.Board.limits self.below.now in
     let counts = g.B.ReadBoard.counts self.below.now in
     let p = c.args.p in
-    let scale = c.in-ok-scale.scale in
-    let scaled = c.in-ok-scale.ensures in
+    let scale = c.in_ok-scale.scale in
+    let scaled = c.in_ok-scale.ensures in
     let units : scale.limit * scale.unit ≡ get_or limits p 0 * unit_at n limits p =
     ap (λ u. scale.limit * u) scaled.unit ∙ ap (λ l. l * unit_at n limits p) scaled.limit in
     record {

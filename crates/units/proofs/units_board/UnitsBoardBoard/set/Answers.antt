@@ -7,11 +7,11 @@ use Rattle.units.proofs.Kept.{same-frame}
 use Rattle.units.proofs.Scaled.{counts-long, may-hold, may-below, set-in-units, same-in-units}
 use Rattle.units.proofs.units_board.UnitsBoardBoard.set.Goals as goal
 
-pub returns-in-default : goal.returns-in-default
-returns-in-default g c =
+pub returns-in_default : goal.returns-in_default
+returns-in_default g c =
     let self = c.args.self.now in
     let below = self.below.now in
-    let absent = c.in-default.ensures in
+    let absent = c.in_default.ensures in
     let long = counts-long (net self.plan.now) (g.B.Board.limits below) (g.B.ReadBoard.counts below) self.rests in
     record {
       counts = (λ may. omega (arith, long, absent.0, absent.1, may.0), refl);
@@ -19,8 +19,8 @@ returns-in-default g c =
       kept = refl;
     }
 
-pub returns-in-err-set : goal.returns-in-err-set
-returns-in-err-set g c =
+pub returns-in_err-set : goal.returns-in_err-set
+returns-in_err-set g c =
     let self = c.args.self.now in
     let n = net self.plan.now in
     let limits = g.B.Board.limits self.below.now in
@@ -29,7 +29,7 @@ returns-in-err-set g c =
     let p = c.args.p in
     let m = c.args.n in
     let scaled = c.in-Some.ensures in
-    let refused = c.in-err-set.ensures in
+    let refused = c.in_err-set.ensures in
     let err = err_from_is_err_and c.from-residual.result c.from-residual.ensures.1 in
     record {
       counts = rw err.1 (
@@ -51,7 +51,7 @@ returns g c =
     let m = c.args.n in
     let scale = c.in-Some.scale in
     let scaled = c.in-Some.ensures in
-    let accepted = c.in-ok-set.ensures in
+    let accepted = c.in_ok-set.ensures in
     let few = g.B.ReadBoard.few self.below.now in
     record {
       counts = (

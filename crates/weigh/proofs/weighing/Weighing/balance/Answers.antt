@@ -4,7 +4,7 @@ use Rattle.weigh.proofs.Weights.{weights-long}
 use Rattle.weigh.proofs.weighing.Weighing.balance.Goals as goal
 
 pub loop-t-preserved : goal.loop-t-preserved
-loop-t-preserved c = below_more _ _ c.loop-t.invariant c.if-is-uneven.ensures
+loop-t-preserved c = below_more _ _ c.loop-t.invariant c.if-is_uneven.ensures
 
 pub returns : goal.returns
 returns c = (

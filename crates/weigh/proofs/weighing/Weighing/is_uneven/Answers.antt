@@ -30,8 +30,8 @@ returns c =
     let n = net c.args.plan.now in
     let t = c.args.t in
     let takes = c.in-Some.ensures in
-    let gives = c.in-Some-gives-of.ensures in
+    let gives = c.in-Some-gives_of.ensures in
     let long : length (weights_of w) ≡ n.places = weights-long w ∙ c.requires in
-    differ-tips n (weights_of w) long t c.weigh-row.result c.weigh-row-2.result takes.0
-    (c.weigh-row.ensures ∙ row-weight n (weights_of w) long t n.takes _ takes.1)
-    (c.weigh-row-2.ensures ∙ row-weight n (weights_of w) long t n.gives _ gives.1)
+    differ-tips n (weights_of w) long t c.weigh_row.result c.weigh_row-2.result takes.0
+    (c.weigh_row.ensures ∙ row-weight n (weights_of w) long t n.takes _ takes.1)
+    (c.weigh_row-2.ensures ∙ row-weight n (weights_of w) long t n.gives _ gives.1)

@@ -14,7 +14,7 @@ loop-p-preserved c =
 
 -- there is a number
 not-empty : (c : After-loop-p) → 1 ≤ length c.args.numbers.now
-not-empty c = let some = eqb-false (length c.args.numbers.now) 0 (sym c.is-empty.ensures ∙ c.if-is-empty.false) in omega arith
+not-empty c = let some = eqb-false (length c.args.numbers.now) 0 (sym c.is_empty.ensures ∙ c.if-is_empty.false) in omega arith
 
 -- the weights are the numbers
 copied : (c : After-loop-p) → take (length c.args.numbers.now) c.loop-p.weights ≡ c.args.numbers.now
@@ -23,19 +23,17 @@ copied c =
     let end : c.loop-p.p ≡ length numbers = omega arith in
     rw end at c.loop-p.invariant.1 ∙ take_all (length numbers) numbers (omega arith)
 
-pub invariant-of-result : goal.invariant-of-result
-invariant-of-result c =
+pub invariant_of-result : goal.invariant_of-result
+invariant_of-result c =
     let numbers = c.args.numbers.now in
-    let weights = c.loop-p.weights in (
-      (not-empty c, omega arith),
-      (
-        (λ k h.
-            let same : get_or weights k 0 ≡ get_or numbers k 0 = sym (get_or-take (length numbers) weights k 0 h) ∙ ap (λ xs. get_or xs k 0) (copied c) in
-            let range = c.loop-p.invariant.2 k (omega arith) in
-            (omega arith, omega arith)),
-        tt,
-      ),
-    )
+    let weights = c.loop-p.weights in
+    record {
+      size = (not-empty c, omega arith);
+      range = λ k h.
+          let same : get_or weights k 0 ≡ get_or numbers k 0 = sym (get_or-take (length numbers) weights k 0 h) ∙ ap (λ xs. get_or xs k 0) (copied c) in
+          let range = c.loop-p.invariant.2 k (omega arith) in
+          (omega arith, omega arith);
+    }
 
 pub returns : goal.returns
 returns c = ((not-empty (goal.at.returns c).After-loop-p, omega arith, λ k h. c.loop-p.invariant.2 k (omega arith)), copied (goal.at.returns c).After-loop-p)

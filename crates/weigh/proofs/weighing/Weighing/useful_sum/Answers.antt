@@ -17,8 +17,8 @@ loop-p-preserved c =
     let n = net c.args.plan.now in
     let m = marking c.args.counts.now in
     let p = c.loop-p.p in
-    let whole : c.whole-units-whole.result ≡ unit_of n p * (get_or m p 0 / unit_of n p) =
-    c.whole-units-whole.ensures
+    let whole : c.whole_units-whole.result ≡ unit_of n p * (get_or m p 0 / unit_of n p) =
+    c.whole_units-whole.ensures
     ∙ ap (λ x. c.unit.result * (x / c.unit.result)) c.held.ensures
     ∙ ap (λ x. x * (get_or m p 0 / x)) c.unit.ensures.value in
     summed-more w (λ q. unit_of n q * (get_or m q 0 / unit_of n q)) 4294967295000 p c.loop-p.sum c.product-sum.result
