@@ -12,7 +12,7 @@ use Rattle.board.specs.Bytes.{byte_counts, byte_limits}
 use Rattle.board.proofs.EvenLimits.{even-at, even-paired}
 use Rattle.board.proofs.OnBytes.{counts-long}
 use Rattle.units.specs.Units.{unit_over_limit, limits_in_units}
-use Rattle.units.proofs.Scaled.{limit-at}
+use Rattle.units.proofs.Scaled.{limits_in_units-at}
 use Rattle.examples.specs.Plans.{net_of_three_moves, net_of_two_moves}
 use Rattle.examples.specs.Table.{WorkedExamples}
 
@@ -32,7 +32,7 @@ limit-786431 : (bytes : List ℕ) → 2 ≤ length bytes → get_or (limits_in_u
 limit-786431 bytes some =
     let there : 0 < length (byte_counts bytes) = omega (arith, counts-long bytes) in
     let low : get_or (byte_limits bytes) 0 0 ≡ 65535 = even-at (byte_counts bytes) 65535 0 there in
-    limit-at net_of_two_moves (byte_limits bytes) 0 (omega (arith, even-paired (byte_counts bytes) 65535))
+    limits_in_units-at net_of_two_moves (byte_limits bytes) 0 (omega (arith, even-paired (byte_counts bytes) 65535))
     ∙ ap (λ limit. limit * unit_over_limit limit (unit_of net_of_two_moves 0) + unit_over_limit limit (unit_of net_of_two_moves 0) - 1) low
     ∙ ap (λ unit. 65535 * unit_over_limit 65535 unit + unit_over_limit 65535 unit - 1) unit-12
 

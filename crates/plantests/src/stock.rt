@@ -1,4 +1,6 @@
-use crate::sheets::UNITS_OF_12;
+use crate::sheets::{THREE_MOVES, UNITS_OF_12};
+use plantext::Stock;
+use std::test::Fail;
 
 // The limit of place p in stock, and the full units and loose rest of its count.
 fn booking(bytes: &[u8], p: usize) -> Option<(u32, Option<(u32, u32, u32)>)> {
@@ -30,4 +32,34 @@ fn at_the_limit_and_one_past_it(rt: HostRuntime) {
     bytes[24..28].copy_from_slice(&65535u32.to_le_bytes());
     assert_eq!(rt; booking(&bytes, 0), Some((786431, None)));
     assert_eq!(rt; booking(&bytes, 1), Some((65535, Some((1, 65535, 0)))));
+}
+
+#[test]
+fn as_text(rt: HostRuntime) -> Result<(), Fail> {
+    match planrecord::describe(THREE_MOVES) {
+        Ok(record) => {
+            let text = format!(in rt.alloc(); "{}", Stock(&record))?;
+            assert_eq!(rt;
+                text.as_str(),
+                "stock, two bytes a place:\n  place 0: 3 full units of 2, 0 loose, limit 131071\n  place 1: 0 full units of 1, 0 loose, limit 65535\n  not booked: none\n"
+            );
+            Ok(())
+        }
+        Err(_) => Err(Fail::new("refused")),
+    }
+}
+
+#[test]
+fn as_text_where_a_place_is_not_booked(rt: HostRuntime) -> Result<(), Fail> {
+    match planrecord::describe(UNITS_OF_12) {
+        Ok(record) => {
+            let text = format!(in rt.alloc(); "{}", Stock(&record))?;
+            assert_eq!(rt;
+                text.as_str(),
+                "stock, two bytes a place:\n  place 0: 65535 full units of 12, 11 loose, limit 786431\n  place 1: not booked, limit 65535\n  not booked: place 1\n"
+            );
+            Ok(())
+        }
+        Err(_) => Err(Fail::new("refused")),
+    }
 }

@@ -13,22 +13,22 @@ module _ (n : Net) (limits : List ℕ) where
   pub limits-long : length (limits_in_units n limits) ≡ length limits
   limits-long = length-map-range_with_len (limit_at n limits) 0 (length limits)
 
-  pub limit-at : (p : ℕ) → p < length limits → get_or (limits_in_units n limits) p 0 ≡ limit_at n limits p
-  limit-at p there = get_or-map-range_with_len (limit_at n limits) 0 (length limits) p p 0 there (omega arith)
+  pub limits_in_units-at : (p : ℕ) → p < length limits → get_or (limits_in_units n limits) p 0 ≡ limit_at n limits p
+  limits_in_units-at p there = get_or-map-range_with_len (limit_at n limits) 0 (length limits) p p 0 there (omega arith)
 
 module _ (n : Net) (limits counts rests : List ℕ) where
   pub counts-long : length (counts_in_units n limits counts rests) ≡ length counts
   counts-long = length-map-range_with_len (count_at n limits counts rests) 0 (length counts)
 
-  pub count_at : (p : ℕ) → p < length counts → get_or (counts_in_units n limits counts rests) p 0 ≡ count_at n limits counts rests p
-  count_at p there = get_or-map-range_with_len (count_at n limits counts rests) 0 (length counts) p p 0 there (omega arith)
+  pub counts_in_units-at : (p : ℕ) → p < length counts → get_or (counts_in_units n limits counts rests) p 0 ≡ count_at n limits counts rests p
+  counts_in_units-at p there = get_or-map-range_with_len (count_at n limits counts rests) 0 (length counts) p p 0 there (omega arith)
 
   -- a count is within the limit, where the count below is
   pub count-within : (p : ℕ) → 0 < unit_at n limits p → p < length counts → p < length limits → get_or counts p 0 ≤ get_or limits p 0
       → get_or (counts_in_units n limits counts rests) p 0 ≤ get_or (limits_in_units n limits) p 0
   count-within p some there bounded few =
       let unit = unit_at n limits p in
-      omega (arith, count_at p there, limit-at n limits p bounded, mod_below (get_or rests p 0) unit some, mul-le-mul_right unit few)
+      omega (arith, counts_in_units-at p there, limits_in_units-at n limits p bounded, mod_below (get_or rests p 0) unit some, mul-le-mul_right unit few)
 
   -- a place that is not there holds nothing
   pub none_within : (p : ℕ) → length counts ≤ p → get_or (counts_in_units n limits counts rests) p 0 ≤ get_or (limits_in_units n limits) p 0
@@ -40,11 +40,11 @@ module _ (n : Net) (limits counts rests : List ℕ) where
   -- a place may hold m in units if and only if the place below may hold the full units of m
   pub may-hold : (p m : ℕ) → 0 < unit_at n limits p → p < length limits → MayHold counts limits p (m / unit_at n limits p) → MayHold (counts_in_units n limits counts rests) (limits_in_units n limits) p m
   may-hold p m some bounded (there, few) =
-      (omega (arith, counts-long), omega (arith, limit-at n limits p bounded, fits-units m (unit_at n limits p) some (get_or limits p 0) few))
+      (omega (arith, counts-long), omega (arith, limits_in_units-at n limits p bounded, fits-units m (unit_at n limits p) some (get_or limits p 0) few))
 
   pub may-below : (p m : ℕ) → 0 < unit_at n limits p → p < length limits → MayHold (counts_in_units n limits counts rests) (limits_in_units n limits) p m → MayHold counts limits p (m / unit_at n limits p)
   may-below p m some bounded (there, small) =
-      (omega (arith, counts-long), fits_below m (unit_at n limits p) some (get_or limits p 0) (omega (arith, limit-at n limits p bounded)))
+      (omega (arith, counts-long), fits_below m (unit_at n limits p) some (get_or limits p 0) (omega (arith, limits_in_units-at n limits p bounded)))
 
   -- setting place p to m: so many full units below, and the rest
   pub counts-after : (p m : ℕ) → p < length counts → p < length rests → 0 < unit_at n limits p
@@ -66,7 +66,7 @@ module _ (n : Net) (limits counts rests : List ℕ) where
       (length-set before p m ∙ counts-long ∙ sym (length-set counts p full))
       (λ k below. ⊎_elim
       (λ same. ap (λ j. get_or (set before p m) j 0) same ∙ get_or-set_same before p m 0 (omega (arith, counts-long)) ∙ sym here ∙ ap after (sym same))
-      (λ ne. get_or-set_other before p k m 0 ne ∙ count_at k (omega (arith, length-set counts p full)) ∙ sym (elsewhere k ne))
+      (λ ne. get_or-set_other before p k m 0 ne ∙ counts_in_units-at k (omega (arith, length-set counts p full)) ∙ sym (elsewhere k ne))
       (cases_eq k p)))
 
   -- the same of what the board below answers

@@ -1,4 +1,4 @@
-use Rattle.std.proofs.Common.{◌≡◌, ◌+◌, ◌*◌, ◌≤◌, sym, ap, ◌∙◌, subst, arith}
+use Rattle.std.proofs.Common.{◌+◌, ◌*◌, ◌≤◌, sym, ap, ◌∙◌, subst}
 use Rattle.units.specs.Units.{unit_over_limit}
 use Rattle.units.proofs.Over.{over-fits}
 use Rattle.units.proofs.units_board.unit_over.Goals as goal

@@ -4,7 +4,7 @@ use Rattle.net.specs.Model.{net}
 use Rattle.units.specs.Units.{unit_at, count_at}
 use Rattle.units.proofs.Over.{beyond-single}
 use Rattle.units.proofs.Split.{whole-small}
-use Rattle.units.proofs.Scaled.{count_at}
+use Rattle.units.proofs.Scaled.{counts_in_units-at}
 use Rattle.units.proofs.units_board.UnitsBoard.in_units.Goals as goal
 
 pub returns : goal.returns
@@ -20,7 +20,7 @@ returns g c =
     let full = c.in_ok-full.full in
     let scaled = c.in_ok-scale.ensures in
     let here = c.in_ok-full.ensures in
-    let count = count_at n limits counts self.rests p here.0 in
+    let count = counts_in_units-at n limits counts self.rests p here.0 in
     let less = mod_below rest scale.unit scaled.positive in
     let whole : full * unit + rest % scale.unit ≡ count_at n limits counts self.rests p =
     ap (λ u. full * unit + rest % u) scaled.unit ∙ ap (λ k. k * unit + rest % unit) here.1 in

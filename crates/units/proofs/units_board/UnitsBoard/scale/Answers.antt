@@ -7,7 +7,7 @@ use Rattle.units.proofs.units_board.UnitsBoard.scale.Goals as goal
 pub returns-in_err-limit : goal.returns-in_err-limit
 returns-in_err-limit g c =
     let absent = c.in_err-limit.ensures in
-    rw c.from-residual.ensures (absent.value, absent.paired)
+    rw c.from_residual.ensures (absent.value, absent.paired)
 
 pub returns : goal.returns
 returns g c =

@@ -1,7 +1,7 @@
 use Rattle.std.proofs.Common.{◌≡◌, ◌*◌, get_or, ap, ◌∙◌, arith}
 use Rattle.net.specs.Model.{net}
 use Rattle.units.specs.Units.{unit_at}
-use Rattle.units.proofs.Scaled.{paired, limits-long, limit-at, count-within, none_within}
+use Rattle.units.proofs.Scaled.{paired, limits-long, limits_in_units-at, count-within, none_within}
 use Rattle.units.proofs.units_board.UnitsBoardBoard.limit.Goals as goal
 
 pub returns-in_err-scale : goal.returns-in_err-scale
@@ -12,7 +12,7 @@ returns-in_err-scale g c =
     let counts = g.B.ReadBoard.counts self.below.now in
     let absent = c.in_err-scale.ensures in
     record {
-      value = rw c.from-residual.ensures (omega (arith, limits-long n limits, absent.0));
+      value = rw c.from_residual.ensures (omega (arith, limits-long n limits, absent.0));
       paired = paired n limits counts self.rests absent.1;
       enough = none_within n limits counts self.rests c.args.p (omega (arith, absent.0, absent.1));
     }
@@ -31,7 +31,7 @@ returns g c =
     record {
       value = (
         omega (arith, limits-long n limits, scaled.there),
-        omega (arith, c.whole.ensures, units, scaled.unit, scaled.positive, limit-at n limits p scaled.there),
+        omega (arith, c.whole.ensures, units, scaled.unit, scaled.positive, limits_in_units-at n limits p scaled.there),
       );
       paired = paired n limits counts self.rests scaled.paired;
       enough = count-within n limits counts self.rests p (omega (arith, scaled.unit, scaled.positive)) (omega (arith, scaled.there, scaled.paired)) scaled.there (omega (arith, scaled.limit, scaled.enough));

@@ -1,4 +1,4 @@
-use Rattle.std.proofs.Common.{◌≡◌, ◌/◌, ◌<◌, sym, refl, ap, ◌∙◌, subst, arith}
+use Rattle.std.proofs.Common.{◌/◌, sym, refl, ap, subst, arith}
 use Rattle.std.proofs.lemmas.Result.{err_from_is_err_and}
 use Rattle.net.specs.Model.{net}
 use Rattle.board.specs.Answers.{MayHold}
@@ -30,7 +30,7 @@ returns-in_err-set g c =
     let m = c.args.n in
     let scaled = c.in-Some.ensures in
     let refused = c.in_err-set.ensures in
-    let err = err_from_is_err_and c.from-residual.result c.from-residual.ensures.1 in
+    let err = err_from_is_err_and c.from_residual.result c.from_residual.ensures.1 in
     record {
       counts = rw err.1 (
         λ may. refused.counts.0 (subst (λ u. MayHold counts limits p (m / u)) (sym scaled.unit) (may-below n limits counts self.rests p m (omega (arith, scaled.unit, scaled.positive)) scaled.there may)),

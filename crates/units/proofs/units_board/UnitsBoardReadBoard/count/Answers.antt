@@ -8,7 +8,7 @@ returns-in_err-unit g c =
     let self = c.args.self.now in
     let below = self.below.now in
     let long = counts-long (net self.plan.now) (g.B.Board.limits below) (g.B.ReadBoard.counts below) self.rests in
-    rw c.from-residual.ensures (omega (arith, long, c.in_err-unit.ensures))
+    rw c.from_residual.ensures (omega (arith, long, c.in_err-unit.ensures))
 
 pub overflow_cast-result : goal.overflow_cast-result
 overflow_cast-result g c =
