@@ -1,5 +1,5 @@
 -- A count in full units and a loose rest.
-use Rattle.std.specs.Prelude.{◌≡◌, ℕ, ◌+◌, ◌*◌, ◌<◌, ◌≤◌, List, length, Some, None, Option, slice_index, slice_index_or}
+use Rattle.std.specs.Prelude.{◌≡◌, ℕ, ◌+◌, ◌*◌, ◌<◌, ◌≤◌, List, length, Some, None, Option, slice_index}
 use Rattle.net.specs.Net.{Net}
 use Rattle.units.specs.Units.{unit_at, counts_in_units}
 use Rattle.units.specs.declared.parts.InUnits.{InUnits}
@@ -16,7 +16,7 @@ pub record Parts (n : Net) (limits counts rests : List ℕ) (p : ℕ) (parts : I
   pub split : SplitsInto (unit_at n limits p) (slice_index (counts_in_units n limits counts rests) p) parts
   pub full : parts.full ≡ slice_index counts p
   pub single : n.places ≤ p → parts.unit ≡ 1
-  pub small : slice_index_or (counts_in_units n limits counts rests) p 0 ≤ 4294967295
+  pub small : slice_index (counts_in_units n limits counts rests) p ≤ 4294967295
 
 -- absent if and only if the board below has no such place
 abbrev pub PartsAt : Net → List ℕ → List ℕ → List ℕ → ℕ → Option InUnits → Type 0

@@ -1,5 +1,5 @@
 -- The unit at a place of a board in units, and what the board below says there.
-use Rattle.std.specs.Prelude.{◌≡◌, ℕ, ◌+◌, ◌*◌, ◌<◌, ◌≤◌, List, length, Some, None, Option, slice_index, slice_index_or}
+use Rattle.std.specs.Prelude.{◌≡◌, ℕ, ◌+◌, ◌*◌, ◌<◌, ◌≤◌, List, length, Some, None, Option, slice_index}
 use Rattle.net.specs.Net.{Net}
 use Rattle.units.specs.Units.{unit_at}
 use Rattle.units.specs.declared.units_board.Scale.{Scale}
@@ -8,7 +8,7 @@ pub record Scaled (n : Net) (limits counts : List ℕ) (p : ℕ) (scale : Scale)
   pub there : p < length limits
   pub paired : length limits ≡ length counts
   pub limit : scale.limit ≡ slice_index limits p
-  pub enough : slice_index_or counts p 0 ≤ scale.limit
+  pub enough : slice_index counts p ≤ scale.limit
   pub unit : scale.unit ≡ unit_at n limits p
   pub positive : 0 < scale.unit
   pub fits : (scale.limit + 1) * scale.unit ≤ 4294967296
