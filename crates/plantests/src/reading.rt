@@ -1,6 +1,5 @@
 use crate::sheets::{THREE_MOVES, TWO_MOVES};
 use std::process::Abort;
-use std::test::Fail;
 
 // The number, slot and spot of a refusal, and noughts where the sheet is read.
 fn answer(bytes: &[u8]) -> (u32, u32, u32) {
@@ -28,7 +27,7 @@ fn checked(rt: &impl Abort, bytes: &mut [u8], case: &Case) {
 }
 
 #[test]
-fn lengths(rt: HostRuntime) -> Result<(), Fail> {
+fn lengths(rt: HostRuntime) {
     let sheet = *THREE_MOVES;
     for n in 0..4usize {
         assert_eq!(rt; answer(&sheet[0..n]), (1, 0, n as u32));
@@ -41,7 +40,6 @@ fn lengths(rt: HostRuntime) -> Result<(), Fail> {
     }
     assert_eq!(rt; answer(&longer), (4, 0, 60));
     assert_eq!(rt; answer(&sheet), (0, 0, 0));
-    Ok(())
 }
 
 // The first two bytes are the numbers of places and moves, the next two the kinds.
@@ -349,7 +347,7 @@ fn sets_and_blanks(rt: HostRuntime) {
 
 // 16 places and 32 moves: 2,196 bytes, with a ceiling whose weights begin at 2,124.
 #[test]
-fn the_largest_sheet(rt: HostRuntime) -> Result<(), Fail> {
+fn the_largest_sheet(rt: HostRuntime) {
     let mut bytes = [0u8; 2196];
     bytes[0] = 16;
     bytes[1] = 32;
@@ -360,5 +358,4 @@ fn the_largest_sheet(rt: HostRuntime) -> Result<(), Fail> {
     }
     assert_eq!(rt; answer(&bytes), (0, 0, 0));
     assert_eq!(rt; answer(&bytes[0..2195]), (4, 0, 2195));
-    Ok(())
 }

@@ -1,5 +1,5 @@
 // Reading a sheet.
-ghost use Rattle.std.specs.Result.{MatchResult};
+ghost use Rattle.std.specs.Prelude.{MatchResult};
 ghost use Rattle.sheet.specs.Spelled.{IsReading, Spells};
 ghost use Rattle.sheet.specs.Agreed.{OnlyReading};
 ghost use Rattle.sheet.specs.Questions.{Lawful};
