@@ -1,7 +1,7 @@
 -- Rows of numbers that lie one after the other.
-use Rattle.std.proofs.Common.{◌≡◌, ℕ, ◌+◌, ◌*◌, ◌<◌, ◌≤◌, cond, ltb, List, length, get_or, replicate, sym, ap, ◌∙◌, ⊎_elim, mul-le-mul_right, add-mul, mul-le-mul, one-mul, arith}
+use Rattle.std.proofs.Common.{◌≡◌, ℕ, ◌+◌, ◌-◌, ◌*◌, ◌<◌, ◌≤◌, cond, ltb, List, ◌++◌, drop, length, get_or, replicate, sym, refl, ap, ◌∙◌, ⊎_elim, mul-le-mul_right, add-mul, mul-le-mul, one-mul, arith}
 use lib.ListN.{length-replicate}
-use Rattle.std.proofs.lemmas.List.{get_or_past, get_or-replicate}
+use Rattle.std.proofs.lemmas.List.{get_or_past, get_or-replicate, get_or_append_left, get_or-append_right, get_or-drop}
 use Rattle.std.proofs.lemmas.Bool.{cases_lt, lt-ltb, le-ltb, cond-true, cond-false}
 use Rattle.net.specs.Model.{cell_at}
 
@@ -12,6 +12,18 @@ bounded xs n below k = ⊎_elim (below k) (λ past. let e : get_or xs k 0 ≡ 0 
 -- noughts are noughts at every index
 pub noughts : (n k : ℕ) → ◌≡◌ {A = ℕ} (get_or (replicate n 0) k 0) 0
 noughts n k = ⊎_elim (get_or-replicate n k 0 0) (λ past. get_or_past (replicate n 0) k 0 (simp length-replicate past)) (cases_lt k n)
+
+-- noughts after the numbers change nothing that is read
+pub noughts-after : (xs : List ℕ) (m n k : ℕ) → get_or (xs ++ drop m (replicate n 0)) k 0 ≡ get_or xs k 0
+noughts-after xs m n k =
+    ⊎_elim
+    (get_or_append_left xs (drop m (replicate n 0)) 0 k)
+    (λ past.
+    get_or-append_right xs (drop m (replicate n 0)) (length xs) k 0 refl past
+    ∙ get_or-drop m (replicate n 0) (k - length xs) 0
+    ∙ noughts n (m + (k - length xs))
+    ∙ sym (get_or_past xs k 0 past))
+    (cases_lt k (length xs))
 
 -- row t of `height` rows ends within all of them
 pub row_within : (t width height : ℕ) → t < height → t * width + width ≤ height * width

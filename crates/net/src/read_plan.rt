@@ -1,7 +1,7 @@
 // The state of a plan that was read and not opened yet.
 ghost use Rattle.std.specs.Prelude.{◌≡◌};
 ghost use Rattle.net.specs.Model.{net};
-ghost use Rattle.net.specs.ReadPlans.{read_places, read_moves};
+ghost use Rattle.net.specs.ReadPlans.{read_places, read_moves, Remembers};
 
 use crate::plan::Plan;
 
@@ -12,17 +12,18 @@ pub struct ReadPlan {
     moves: u32,
 }
 
-impl ReadPlan {
-    pub fn of(plan: &Plan) -> ReadPlan
-        ensures places { read_places result ≡ (net plan.now).places }
-        ensures moves { read_moves result ≡ (net plan.now).moves }
-    {
+impl From<&Plan> for ReadPlan {
+    ghost from_gives = { λ plan state. Remembers (net plan.now) state };
+
+    fn from(plan: &Plan) -> ReadPlan {
         ReadPlan {
             places: plan.places(),
             moves: plan.moves(),
         }
     }
+}
 
+impl ReadPlan {
     pub fn places(&self) -> u32
         ensures { result ≡ read_places self.now }
     {

@@ -13,13 +13,18 @@ impl Counts {
             return None;
         }
         let mut held = [0u32; 16];
-        for p in 0..numbers.len() {
-            held[p] = numbers[p];
-        }
+        held[..numbers.len()].copy_from_slice(numbers);
         Some(Counts {
             held,
             len: numbers.len() as u32,
         })
+    }
+
+    // The counts, one for each place.
+    pub fn numbers(&self) -> &[u32]
+        ensures { result.now ≡ marking self.now }
+    {
+        &self.held[..self.len as usize]
     }
 
     pub fn places(&self) -> u32
@@ -32,20 +37,13 @@ impl Counts {
     pub fn count(&self, p: u32) -> Option<u32>
         ensures { MatchOption result (length (marking self.now) ≤ p) (λ n. (p < length (marking self.now)) × (n ≡ slice_index (marking self.now) p)) }
     {
-        if p < self.len {
-            Some(self.held[p as usize])
-        } else {
-            None
-        }
+        self.numbers().get(p as usize).copied()
     }
 
     // The count at a place, where a place that is not there holds 0.
     pub fn held(&self, p: u32) -> u32
         ensures { result ≡ slice_index (marking self.now) p }
     {
-        let Some(n) = self.count(p) else {
-            return 0;
-        };
-        n
+        self.count(p).unwrap_or(0)
     }
 }

@@ -1,6 +1,6 @@
 // How a plan is made, and what it says of each move and place.
-ghost use Rattle.std.specs.Prelude.{◌≡◌, ℕ, ◌+◌, ◌*◌, ◌<◌, ◌≤◌, length, MatchBool, MatchOption, slice_index};
-ghost use Rattle.net.specs.Model.{net, spelled, Lawful, Light, Same, IsRow};
+ghost use Rattle.std.specs.Prelude.{◌≡◌, ℕ, ◌+◌, ◌*◌, ◌<◌, ◌≤◌, length, IfSome, IsNone, MatchBool, MatchOption, slice_index};
+ghost use Rattle.net.specs.Model.{net, spelled, cell_at, Lawful, Light, Same, IsRow};
 
 use super::{MOST_ARC_WEIGHT, MOST_MOVES, MOST_PLACES, Plan};
 
@@ -20,10 +20,7 @@ pub fn first_heavy(rows: &[u16]) -> Option<usize>
 fn all_light(rows: &[u16]) -> bool
     ensures { MatchBool result (Light rows.now) (Light rows.now → ⊥) }
 {
-    match first_heavy(rows) {
-        Some(_) => false,
-        None => true,
-    }
+    first_heavy(rows).is_none()
 }
 
 // The numbers, and then noughts.
@@ -32,9 +29,7 @@ fn padded(rows: &[u16]) -> [u16; 512]
     ensures { (k : ℕ) → slice_index result k ≡ slice_index rows.now k }
 {
     let mut all = [0u16; 512];
-    for i in 0..rows.len() {
-        all[i] = rows[i];
-    }
+    all[..rows.len()].copy_from_slice(rows);
     all
 }
 
@@ -47,15 +42,14 @@ fn row_of(rows: &[u16], width: u32, t: u32) -> &[u16]
     &rows[start..start + width as usize]
 }
 
-// The number at a place of a row, 0 past its end.
-fn entry(row: &[u16], p: u32) -> u16
-    ensures { result ≡ slice_index row.now p }
+// The number at a place of a row; 0 past its end, or where there is no row.
+fn entry(row: Option<&[u16]>, p: u32) -> u16
+    ensures some { IfSome row.entry (λ numbers. result ≡ slice_index numbers.now p) }
+    ensures none { IsNone row.entry → result ≡ 0 }
 {
-    if (p as usize) < row.len() {
-        row[p as usize]
-    } else {
-        0
-    }
+    row.and_then(|numbers| numbers.get(p as usize))
+        .copied()
+        .unwrap_or(0)
 }
 
 impl Plan {
@@ -92,26 +86,29 @@ impl Plan {
         self.moves
     }
 
+    // The row of move t among takes or gives, absent where the plan has no such move.
+    fn row<'a>(&self, arcs: &'a [u16; 512], t: u32) -> Option<&'a [u16]>
+        ensures { MatchOption result ((net self.now).moves ≤ t) (λ row. (t < (net self.now).moves) × IsRow (net self.now) (cell_at (net self.now).places arcs.now) t row.now) }
+    {
+        if t < self.moves {
+            Some(row_of(arcs, self.places, t))
+        } else {
+            None
+        }
+    }
+
     // What move t takes at each place, absent where the plan has no such move.
     pub fn takes_of(&self, t: u32) -> Option<&[u16]>
         ensures { MatchOption result ((net self.now).moves ≤ t) (λ row. (t < (net self.now).moves) × IsRow (net self.now) (net self.now).takes t row.now) }
     {
-        if t < self.moves {
-            Some(row_of(&self.takes, self.places, t))
-        } else {
-            None
-        }
+        self.row(&self.takes, t)
     }
 
     // What move t gives at each place, absent where the plan has no such move.
     pub fn gives_of(&self, t: u32) -> Option<&[u16]>
         ensures { MatchOption result ((net self.now).moves ≤ t) (λ row. (t < (net self.now).moves) × IsRow (net self.now) (net self.now).gives t row.now) }
     {
-        if t < self.moves {
-            Some(row_of(&self.gives, self.places, t))
-        } else {
-            None
-        }
+        self.row(&self.gives, t)
     }
 
     // What move t takes at place p: 0 where the plan has no such move or place.
@@ -120,10 +117,7 @@ impl Plan {
         ensures absent { (net self.now).moves ≤ t → result ≡ 0 }
         ensures bound { result ≤ 1000 }
     {
-        match self.takes_of(t) {
-            Some(row) => entry(row, p),
-            None => 0,
-        }
+        entry(self.takes_of(t), p)
     }
 
     // What move t gives at place p: 0 where the plan has no such move or place.
@@ -132,9 +126,6 @@ impl Plan {
         ensures absent { (net self.now).moves ≤ t → result ≡ 0 }
         ensures bound { result ≤ 1000 }
     {
-        match self.gives_of(t) {
-            Some(row) => entry(row, p),
-            None => 0,
-        }
+        entry(self.gives_of(t), p)
     }
 }

@@ -1,6 +1,6 @@
 use Rattle.std.proofs.Common.{arith}
 use Rattle.net.proofs.Rows.{row_within, arcs-within}
-use Rattle.net.proofs.plan.Plan.takes_of.Goals as goal
+use Rattle.net.proofs.plan.Plan.row.Goals as goal
 
 pub row_of-requires : goal.row_of-requires
 row_of-requires c =
