@@ -1,6 +1,11 @@
 -- The largest and the least take of a place are what their names say.
-use Rattle.std.proofs.Common.{◌≡◌, ℕ, zero, suc, ◌+◌, ◌<◌, ◌≤◌, max, ◌⊎◌, sym, refl, ◌∙◌, ⊎_elim, le_trans, add-one, arith}
+use Rattle.std.proofs.Common.{◌≡◌, ℕ, zero, suc, ◌+◌, ◌<◌, ◌≤◌, min, max, ◌⊎◌, nat_lt, List, [], ◌∷◌, ◌++◌, map, Option, Some, None, MatchOption, subst, sym, refl, ap, ◌∙◌, ⊎_elim, le_trans, add-one, arith}
+use Rattle.std.specs.List.{filter, fold, reduce, range_with_len}
 use native.Mathlib.Nat.{le-max_left, le-max_right}
+use Rattle.std.proofs.lemmas.List.{append-nil, map-append}
+use Rattle.std.proofs.lemmas.List.Elements.{filter-append}
+use Rattle.std.proofs.lemmas.List.Sums.{fold-append}
+use Rattle.std.proofs.lemmas.Bool.{cond-true, lt-ltb}
 use Rattle.std.proofs.lemmas.Bool.Decides.{nat_tests}
 use Rattle.net.specs.Net.{Net}
 use Rattle.net.specs.Takes.{NoTaker, largest_below, largest_take, lesser_take, least_below, least_take, IsLargestTake, IsLeastTake}
@@ -35,6 +40,65 @@ lesser-left a b h = (grind (arith, nat_tests), grind (arith, nat_tests))
 -- and at most the second
 lesser-right : (a b : ℕ) → AtMost (lesser_take a b) b
 lesser-right a b h = (grind (arith, nat_tests), grind (arith, nat_tests))
+
+-- of two takes each chooses one
+max-picks : (a b : ℕ) → 1 ≤ a → 1 ≤ b → (max a b ≡ max a b) × (1 ≤ max a b)
+max-picks a b some more = (refl, le_trans some (le-max_left a b))
+
+lesser-picks : (a b : ℕ) → 1 ≤ a → 1 ≤ b → (lesser_take a b ≡ min a b) × (1 ≤ min a b)
+lesser-picks a b some more = (grind (arith, nat_tests), grind arith)
+
+-- one more number of a range
+range-more : (a k : ℕ) → range_with_len a (suc k) ≡ range_with_len a k ++ (a + k) ∷ []
+range-more a zero = ap (λ b. b ∷ []) (omega arith)
+range-more a (suc k) = ap (λ bs. a ∷ bs) (range-more (a + 1) k ∙ ap (λ b. range_with_len (a + 1) k ++ b ∷ []) (omega arith))
+
+range-next : (k : ℕ) → range_with_len 0 (suc k) ≡ range_with_len 0 k ++ k ∷ []
+range-next k = range-more 0 k ∙ ap (λ b. range_with_len 0 k ++ b ∷ []) (omega arith)
+
+-- what follows from each of the two cases of an option
+by_cases : {P P' : Type 0} {Q Q' : ℕ → Type 0} (o : Option ℕ) → (P → P') → ((m : ℕ) → Q m → Q' m) → MatchOption o P Q → MatchOption o P' Q'
+by_cases None none some h = none h
+by_cases (Some m) none some h = some m h
+
+-- the numbers that are takes
+abbrev pub takes_of : List ℕ → List ℕ
+takes_of xs = filter (λ v. nat_lt 0 v) xs
+
+taken-stays : (v : ℕ) → 1 ≤ v → takes_of (v ∷ []) ≡ v ∷ []
+taken-stays v some = cond-true (nat_lt 0 v) _ _ (lt-ltb 0 v some)
+
+takes-more : (f : ℕ → ℕ) (k : ℕ) → takes_of (map f (range_with_len 0 (suc k))) ≡ takes_of (map f (range_with_len 0 k)) ++ takes_of (f k ∷ [])
+takes-more f k =
+    ap (λ ks. takes_of (map f ks)) (range-next k)
+    ∙ ap takes_of (map-append f (range_with_len 0 k) (k ∷ []))
+    ∙ filter-append (λ v. nat_lt 0 v) (map f (range_with_len 0 k)) (f k ∷ [])
+
+-- `pick` chooses of two takes, and `combine` does the same with 0 for no take
+module _ (pick combine : ℕ → ℕ → ℕ) (right : (a : ℕ) → combine a 0 ≡ a) (left : (b : ℕ) → combine 0 b ≡ b) (both : (a b : ℕ) → 1 ≤ a → 1 ≤ b → (combine a b ≡ pick a b) × (1 ≤ pick a b)) where
+  -- an absent take, or a take that 0 stands for
+  abbrev Agrees : Option ℕ → ℕ → Type 0
+  Agrees found chosen = MatchOption found (chosen ≡ 0) (λ m. (m ≡ chosen) × (1 ≤ m))
+
+  agrees-more : (xs : List ℕ) (chosen taken : ℕ) → Agrees (reduce pick xs) chosen → Agrees (reduce pick (xs ++ takes_of (taken ∷ []))) (combine chosen taken)
+  agrees-more xs chosen zero h = rw (append-nil xs, right chosen) h
+  agrees-more [] chosen (suc b) h =
+      let some : 1 ≤ suc b = omega arith in
+      subst (λ ys. Agrees (reduce pick ys) (combine chosen (suc b))) (sym (taken-stays (suc b) some)) (sym (ap (λ a. combine a (suc b)) h ∙ left (suc b)), some)
+  agrees-more (x ∷ xs) chosen (suc b) h =
+      let some : 1 ≤ suc b = omega arith in
+      let step = both (fold pick x xs) (suc b) h.1 some in
+      let e : fold pick x (xs ++ suc b ∷ []) ≡ pick (fold pick x xs) (suc b) = fold-append pick x xs (suc b ∷ []) in
+      subst (λ ys. Agrees (reduce pick (x ∷ xs ++ ys)) (combine chosen (suc b))) (sym (taken-stays (suc b) some))
+      (e ∙ sym step.0 ∙ ap (λ a. combine a (suc b)) h.0, subst (λ v. 1 ≤ v) (sym e) step.1)
+
+  -- what `pick` makes of the takes of the first moves is what `combine` makes of them in turn
+  pub agrees : (f chosen : ℕ → ℕ) → chosen 0 ≡ 0 → ((k : ℕ) → chosen (suc k) ≡ combine (chosen k) (f k)) → (k : ℕ) → Agrees (reduce pick (takes_of (map f (range_with_len 0 k)))) (chosen k)
+  agrees f chosen none more zero = none
+  agrees f chosen none more (suc k) =
+      subst (λ ys. Agrees (reduce pick ys) (chosen (suc k))) (sym (takes-more f k))
+      (subst (λ v. Agrees (reduce pick (takes_of (map f (range_with_len 0 k)) ++ takes_of (f k ∷ []))) v) (sym (more k))
+      (agrees-more (takes_of (map f (range_with_len 0 k))) (chosen k) (f k) (agrees f chosen none more k)))
 
 module _ (n : Net) (p : ℕ) where
   -- a number that starts at 0 and becomes some takes in turn is the take of one of those takers
@@ -76,3 +140,16 @@ module _ (n : Net) (p : ℕ) where
   pub least-is : (least_take n p ≡ 0 → ⊥) → IsLeastTake n p (least_take n p)
   unfolding least_below
   least-is some = (taken (least_below n p) refl (λ k. lesser-one (least_below n p k) (n.takes k p)) n.moves some, λ t taker. (least_under n.moves t taker.0 taker.1).1)
+
+  -- the largest and the least of the takes, as an iterator finds them
+  pub largest-found : MatchOption (reduce max (takes_of (map (λ t. n.takes t p) (range_with_len 0 n.moves)))) (NoTaker n p) (λ m. (m ≡ largest_take n p) × IsLargestTake n p m)
+  unfolding largest_below
+  largest-found =
+      by_cases {Q' = λ m. (m ≡ largest_take n p) × IsLargestTake n p m} _ largest-none (λ m h. (h.0, subst (IsLargestTake n p) (sym h.0) (largest-is (λ none. omega (arith, h.0, h.1, none)))))
+      (agrees max max (λ a. grind arith) (λ b. grind arith) max-picks (λ t. n.takes t p) (largest_below n p) refl (λ k. refl) n.moves)
+
+  pub least-found : MatchOption (reduce min (takes_of (map (λ t. n.takes t p) (range_with_len 0 n.moves)))) (NoTaker n p) (λ m. (m ≡ least_take n p) × IsLeastTake n p m)
+  unfolding least_below
+  least-found =
+      by_cases {Q' = λ m. (m ≡ least_take n p) × IsLeastTake n p m} _ least-none (λ m h. (h.0, subst (IsLeastTake n p) (sym h.0) (least-is (λ none. omega (arith, h.0, h.1, none)))))
+      (agrees min lesser_take (λ a. grind (arith, nat_tests)) (λ b. grind (arith, nat_tests)) lesser-picks (λ t. n.takes t p) (least_below n p) refl (λ k. refl) n.moves)

@@ -1,34 +1,18 @@
-use Rattle.std.proofs.Common.{◌≡◌, max, sym, refl, ap, ◌∙◌, subst, arith}
-use Rattle.net.specs.Takes.{largest_below, largest_take, IsLargestTake}
+use Rattle.std.proofs.Common.{rules, ◌≡◌, MatchOption, subst, sym, ◌∙◌, arith}
+use borrow.Author.Tests.{tests}
+use Rattle.std.proofs.lemmas.Iterator.{YieldsList-from_range, YieldsList-from_map}
+use Rattle.std.proofs.lemmas.Iterator.Consumers.{YieldsList-at, YieldsList-from_filter, max_from_yields_List}
+use Rattle.std.proofs.lemmas.Iterator.Adapters.{option_map_id}
 use Rattle.net.specs.Model.{net}
-use Rattle.net.proofs.Takers.{largest-more, largest-none, largest-is}
+use Rattle.net.specs.Takes.{NoTaker, largest_take, IsLargestTake}
+use Rattle.net.proofs.Takers.{largest-found}
 use Rattle.net.proofs.plan.Plan.largest_take.Goals as goal
 
-pub loop-t-init : goal.loop-t-init
-unfolding largest_below
-loop-t-init c = refl
-
-pub loop-t-preserved : goal.loop-t-preserved
-loop-t-preserved c =
+pub returns : goal.returns
+returns c =
     let n = net c.args.self.now in
-    let p = c.args.p in
-    let t = c.loop-t.t in
-    c.max-largest.ensures
-    ∙ ap (λ a. max a c.take.result) c.loop-t.invariant
-    ∙ ap (λ b. max (largest_below n p t) b) c.take.ensures.value
-    ∙ sym (largest-more n p t)
-
-pub returns-then-largest-eq0 : goal.returns-then-largest-eq0
-returns-then-largest-eq0 c =
-    let n = net c.args.self.now in
-    let p = c.args.p in
-    let end : c.loop-t.t ≡ n.moves = omega arith in
-    largest-none n p (sym (c.loop-t.invariant ∙ ap (largest_below n p) end) ∙ c.if-largest-eq0.true)
-
-pub returns-else-largest-eq0 : goal.returns-else-largest-eq0
-returns-else-largest-eq0 c =
-    let n = net c.args.self.now in
-    let p = c.args.p in
-    let end : c.loop-t.t ≡ n.moves = omega arith in
-    let e : c.loop-t.largest ≡ largest_take n p = c.loop-t.invariant ∙ ap (largest_below n p) end in
-    (e, subst (λ v. IsLargestTake n p v) (sym e) (largest-is n p (λ none. c.if-largest-eq0.false (e ∙ none))))
+    let found =
+    max_from_yields_List _ c.max.result c.max.ensures.ran
+    (YieldsList-from_filter _ _ (YieldsList-at c.filter.ensures.source (YieldsList-from_map _ (λ t. n.takes t c.args.p) (YieldsList-from_range 0 n.moves n.moves (cc) (omega arith)) c.map.ensures.closure (λ x r q k. search rules))) c.filter.ensures.closure (λ x r q k. search (rules, tests)))
+    in
+    subst (λ r. MatchOption r (NoTaker n c.args.p) (λ m. (m ≡ largest_take n c.args.p) × IsLargestTake n c.args.p m)) (sym (sym (option_map_id c.max.result) ∙ found)) (largest-found n c.args.p)

@@ -1,34 +1,18 @@
-use Rattle.std.proofs.Common.{◌≡◌, sym, refl, ap, ◌∙◌, subst, arith}
-use Rattle.net.specs.Takes.{least_below, least_take, IsLeastTake, lesser_take}
+use Rattle.std.proofs.Common.{rules, ◌≡◌, MatchOption, subst, sym, ◌∙◌, arith}
+use borrow.Author.Tests.{tests}
+use Rattle.std.proofs.lemmas.Iterator.{YieldsList-from_range, YieldsList-from_map}
+use Rattle.std.proofs.lemmas.Iterator.Consumers.{YieldsList-at, YieldsList-from_filter, min_from_yields_List}
+use Rattle.std.proofs.lemmas.Iterator.Adapters.{option_map_id}
 use Rattle.net.specs.Model.{net}
-use Rattle.net.proofs.Takers.{least_more, least-none, least-is}
+use Rattle.net.specs.Takes.{NoTaker, least_take, IsLeastTake}
+use Rattle.net.proofs.Takers.{least-found}
 use Rattle.net.proofs.plan.Plan.least_take.Goals as goal
 
-pub loop-t-init : goal.loop-t-init
-unfolding least_below
-loop-t-init c = refl
-
-pub loop-t-preserved : goal.loop-t-preserved
-loop-t-preserved c =
+pub returns : goal.returns
+returns c =
     let n = net c.args.self.now in
-    let p = c.args.p in
-    let t = c.loop-t.t in
-    c.lesser-least.ensures
-    ∙ ap (λ a. lesser_take a c.take.result) c.loop-t.invariant
-    ∙ ap (λ b. lesser_take (least_below n p t) b) c.take.ensures.value
-    ∙ sym (least_more n p t)
-
-pub returns-then-least-eq0 : goal.returns-then-least-eq0
-returns-then-least-eq0 c =
-    let n = net c.args.self.now in
-    let p = c.args.p in
-    let end : c.loop-t.t ≡ n.moves = omega arith in
-    least-none n p (sym (c.loop-t.invariant ∙ ap (least_below n p) end) ∙ c.if-least-eq0.true)
-
-pub returns-else-least-eq0 : goal.returns-else-least-eq0
-returns-else-least-eq0 c =
-    let n = net c.args.self.now in
-    let p = c.args.p in
-    let end : c.loop-t.t ≡ n.moves = omega arith in
-    let e : c.loop-t.least ≡ least_take n p = c.loop-t.invariant ∙ ap (least_below n p) end in
-    (e, subst (λ v. IsLeastTake n p v) (sym e) (least-is n p (λ none. c.if-least-eq0.false (e ∙ none))))
+    let found =
+    min_from_yields_List _ c.min.result c.min.ensures.ran
+    (YieldsList-from_filter _ _ (YieldsList-at c.filter.ensures.source (YieldsList-from_map _ (λ t. n.takes t c.args.p) (YieldsList-from_range 0 n.moves n.moves (cc) (omega arith)) c.map.ensures.closure (λ x r q k. search rules))) c.filter.ensures.closure (λ x r q k. search (rules, tests)))
+    in
+    subst (λ r. MatchOption r (NoTaker n c.args.p) (λ m. (m ≡ least_take n c.args.p) × IsLeastTake n c.args.p m)) (sym (sym (option_map_id c.min.result) ∙ found)) (least-found n c.args.p)
