@@ -1,5 +1,5 @@
 -- Euclid's algorithm finds the greatest common divisor, and so the unit of a place.
-use Rattle.std.proofs.Common.{◌≡◌, ℕ, zero, suc, ◌+◌, ◌%◌, ◌<◌, ◌≤◌, eqb, refl, le_refl, add-one, arith, lit<}
+use Rattle.std.proofs.Common.{◌≡◌, ℕ, zero, suc, ◌+◌, ◌%◌, ◌<◌, ◌≤◌, max, eqb, refl, le_refl, add-one, arith, lit<}
 use Prim.Native.Nat.{◌∣◌}
 use native.Mathlib.Nat.{dvd_refl, dvd-zero, dvd_trans, dvd_antisymm, dvd-mod_iff, eq-zero_of_zero-dvd, one-dvd}
 use Rattle.std.proofs.lemmas.Nat.{mod_below}
@@ -101,11 +101,11 @@ module _ (n : Net) (p : ℕ) where
   unfolding gcd_of_arcs
   arcs-fold t = rw add-one
 
-  -- the unit by cases
-  pub unit-none : gcd_of_arcs n p n.moves ≡ 0 → unit_of n p ≡ 1
+  -- the unit is the divisor of all arcs, or 1 where that is 0
+  pub unit-max : unit_of n p ≡ max (gcd_of_arcs n p n.moves) 1
   unfolding unit_of
-  unit-none none = cond-true _ _ _ (eq-eqb _ 0 none)
-
-  pub unit-some : (gcd_of_arcs n p n.moves ≡ 0 → ⊥) → unit_of n p ≡ gcd_of_arcs n p n.moves
-  unfolding unit_of
-  unit-some some = cond-false _ _ _ (ne_eqb _ 0 some)
+  unit-max =
+      let all = gcd_of_arcs n p n.moves in
+      cond_both (eqb all 0) 1 all (λ u. u ≡ max all 1)
+      (λ yes. let none = eqb-true all 0 yes in omega arith)
+      (λ no. let some = eqb-false all 0 no in omega arith)

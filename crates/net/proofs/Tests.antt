@@ -1,5 +1,5 @@
 -- What the test of every number below a bound says, and what the test that a move is fed says.
-use Rattle.std.proofs.Common.{◌≡◌, ℕ, ◌+◌, ◌<◌, ◌≤◌, Bool, true, false, ◌&&◌, leb, List, get_or, Decides, refl, ⊎_elim, add-one}
+use Rattle.std.proofs.Common.{◌≡◌, ℕ, ◌+◌, ◌<◌, ◌≤◌, Bool, true, false, ◌&&◌, leb, List, get_or, Decides, MatchBool, sym, refl, ⊎_elim, add-one}
 use mathlib.Core.Bool.{and_comm}
 use Rattle.std.proofs.lemmas.Bool.{both_ways, leb-true, le-leb, cases_Bool}
 use Rattle.std.proofs.lemmas.Bool.Decides.{Decides-and, Decides-ltb, Decides-below_and}
@@ -56,3 +56,8 @@ tests-fed n m t = (fed-decides n m t).1
 -- a move that is not fed fails its test
 pub not-fed : (n : Net) (m : List ℕ) (t : ℕ) → (Fed n m t → ⊥) → is_fed n m t ≡ false
 not-fed n m t no-feed = ⊎_elim (λ yes-fed. absurd (no-feed (fed-tests n m t yes-fed))) (λ e. e) (cases_Bool (is_fed n m t))
+
+-- whatever tells whether a move is fed is its test
+pub told-fed : (b : Bool) (n : Net) (m : List ℕ) (t : ℕ) → MatchBool b (Fed n m t) (Fed n m t → ⊥) → b ≡ is_fed n m t
+told-fed true n m t fed = sym (tests-fed n m t fed)
+told-fed false n m t unfed = sym (not-fed n m t unfed)

@@ -24,6 +24,6 @@ impl Plan {
             let taken = gcd(common, u32::from(self.take(t, p)));
             common = gcd(taken, u32::from(self.give(t, p)));
         }
-        if common == 0 { 1 } else { common }
+        common.max(1)
     }
 }

@@ -1,7 +1,7 @@
-use Rattle.std.proofs.Common.{◌≡◌, ℕ, sym, refl, ap, ◌∙◌, subst, arith}
+use Rattle.std.proofs.Common.{◌≡◌, ℕ, max, sym, refl, ap, ◌∙◌, subst, arith}
 use Rattle.net.specs.Divisors.{gcd_of, gcd_of_arcs, unit_of, IsUnit, IsGcd}
 use Rattle.net.specs.Model.{net}
-use Rattle.net.proofs.Gcds.{gcd-is, gcd-unique, arcs-fold, unit-is, unit-none, unit-some}
+use Rattle.net.proofs.Gcds.{gcd-is, gcd-unique, arcs-fold, unit-is, unit-max}
 use Rattle.net.proofs.plan.Plan.unit.Goals as goal
 
 -- what the code finds is the defined divisor
@@ -21,19 +21,10 @@ loop-t-preserved c =
     found _ _ (gcd_of (gcd_of_arcs n p t) (n.takes t p)) (n.gives t p) c.gcd-common.result c.gcd-common.ensures taken (c.from-in-loop-t.ensures ∙ c.give.ensures.value)
     ∙ sym (arcs-fold n p t)
 
-pub returns-then-common-eq0 : goal.returns-then-common-eq0
-returns-then-common-eq0 c =
+pub returns : goal.returns
+returns c =
     let n = net c.args.self.now in
     let p = c.args.p in
     let end : c.loop-t.t ≡ n.moves = omega arith in
-    let e : unit_of n p ≡ 1 = unit-none n p (sym (c.loop-t.invariant ∙ ap (gcd_of_arcs n p) end) ∙ c.if-common-eq0.true) in
-    record { value = sym e; unit = subst (λ u. IsUnit n p u) e (unit-is n p) }
-
-pub returns-else-common-eq0 : goal.returns-else-common-eq0
-returns-else-common-eq0 c =
-    let n = net c.args.self.now in
-    let p = c.args.p in
-    let end : c.loop-t.t ≡ n.moves = omega arith in
-    let e : c.loop-t.common ≡ gcd_of_arcs n p n.moves = c.loop-t.invariant ∙ ap (gcd_of_arcs n p) end in
-    let u : unit_of n p ≡ c.loop-t.common = unit-some n p (λ none. c.if-common-eq0.false (e ∙ none)) ∙ sym e in
-    record { value = sym u; unit = subst (λ v. IsUnit n p v) u (unit-is n p) }
+    let e : c.max.result ≡ unit_of n p = c.max.ensures ∙ ap (λ g. max g 1) (c.loop-t.invariant ∙ ap (gcd_of_arcs n p) end) ∙ sym (unit-max n p) in
+    record { value = e; unit = subst (λ u. IsUnit n p u) (sym e) (unit-is n p) }
