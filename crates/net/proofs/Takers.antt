@@ -56,6 +56,9 @@ range-more a (suc k) = ap (λ bs. a ∷ bs) (range-more (a + 1) k ∙ ap (λ b. 
 range-next : (k : ℕ) → range_with_len 0 (suc k) ≡ range_with_len 0 k ++ k ∷ []
 range-next k = range-more 0 k ∙ ap (λ b. range_with_len 0 k ++ b ∷ []) (omega arith)
 
+map-next : (f : ℕ → ℕ) (k : ℕ) → map f (range_with_len 0 (suc k)) ≡ map f (range_with_len 0 k) ++ f k ∷ []
+map-next f k = ap (map f) (range-next k) ∙ map-append f (range_with_len 0 k) (k ∷ [])
+
 -- what follows from each of the two cases of an option
 by_cases : {P P' : Type 0} {Q Q' : ℕ → Type 0} (o : Option ℕ) → (P → P') → ((m : ℕ) → Q m → Q' m) → MatchOption o P Q → MatchOption o P' Q'
 by_cases None none some h = none h
@@ -70,8 +73,7 @@ taken-stays v some = cond-true (nat_lt 0 v) _ _ (lt-ltb 0 v some)
 
 takes-more : (f : ℕ → ℕ) (k : ℕ) → takes_of (map f (range_with_len 0 (suc k))) ≡ takes_of (map f (range_with_len 0 k)) ++ takes_of (f k ∷ [])
 takes-more f k =
-    ap (λ ks. takes_of (map f ks)) (range-next k)
-    ∙ ap takes_of (map-append f (range_with_len 0 k) (k ∷ []))
+    ap takes_of (map-next f k)
     ∙ filter-append (λ v. nat_lt 0 v) (map f (range_with_len 0 k)) (f k ∷ [])
 
 -- `pick` chooses of two takes, and `combine` does the same with 0 for no take
@@ -141,13 +143,30 @@ module _ (n : Net) (p : ℕ) where
   unfolding least_below
   least-is some = (taken (least_below n p) refl (λ k. lesser-one (least_below n p k) (n.takes k p)) n.moves some, λ t taker. (least_under n.moves t taker.0 taker.1).1)
 
-  -- the largest and the least of the takes, as an iterator finds them
-  pub largest-found : MatchOption (reduce max (takes_of (map (λ t. n.takes t p) (range_with_len 0 n.moves)))) (NoTaker n p) (λ m. (m ≡ largest_take n p) × IsLargestTake n p m)
-  unfolding largest_below
-  largest-found =
-      by_cases {Q' = λ m. (m ≡ largest_take n p) × IsLargestTake n p m} _ largest-none (λ m h. (h.0, subst (IsLargestTake n p) (sym h.0) (largest-is (λ none. omega (arith, h.0, h.1, none)))))
-      (agrees max max (λ a. grind arith) (λ b. grind arith) max-picks (λ t. n.takes t p) (largest_below n p) refl (λ k. refl) n.moves)
+  -- the largest of the takes of the first moves, as an iterator finds it
+  largest-more-found : (xs : List ℕ) (chosen taken : ℕ) → MatchOption (reduce max xs) (chosen ≡ 0) (λ m. m ≡ chosen) → MatchOption (reduce max (xs ++ taken ∷ [])) ⊥ (λ m. m ≡ max chosen taken)
+  largest-more-found [] chosen taken h = omega arith
+  largest-more-found (x ∷ xs) chosen taken h = fold-append max x xs (taken ∷ []) ∙ ap (λ a. max a taken) h
 
+  pub largest-found : (k : ℕ) → MatchOption (reduce max (map (λ t. n.takes t p) (range_with_len 0 k))) (largest_below n p k ≡ 0) (λ m. m ≡ largest_below n p k)
+  unfolding largest_below
+  largest-found zero = refl
+  largest-found (suc k) =
+      subst (λ xs. MatchOption (reduce max xs) (max (largest_below n p k) (n.takes k p) ≡ 0) (λ m. m ≡ max (largest_below n p k) (n.takes k p))) (sym (map-next (λ t. n.takes t p) k))
+      (by_cases {Q' = λ m. m ≡ max (largest_below n p k) (n.takes k p)} _ (λ none. absurd none) (λ m e. e)
+      (largest-more-found (map (λ t. n.takes t p) (range_with_len 0 k)) (largest_below n p k) (n.takes k p) (largest-found k)))
+
+  -- where it is not 0, it is the largest take
+  pub largest-kept : (found : Option ℕ) (kept : Option ℕ) → MatchOption found (largest_take n p ≡ 0) (λ m. m ≡ largest_take n p)
+      → MatchOption found (kept ≡ None) (λ m. MatchOption kept (m ≡ 0) (λ k. (k ≡ m) × (0 < m)))
+      → MatchOption kept (NoTaker n p) (λ m. (m ≡ largest_take n p) × IsLargestTake n p m)
+  largest-kept None kept none e = subst (λ o. MatchOption o (NoTaker n p) (λ m. (m ≡ largest_take n p) × IsLargestTake n p m)) (sym e) (largest-none none)
+  largest-kept (Some m) None e nought = largest-none (sym e ∙ nought)
+  largest-kept (Some m) (Some k) e h =
+      let same : k ≡ largest_take n p = h.0 ∙ e in
+      (same, subst (IsLargestTake n p) (sym same) (largest-is (λ none. omega (arith, e, h.1))))
+
+  -- and the least
   pub least-found : MatchOption (reduce min (takes_of (map (λ t. n.takes t p) (range_with_len 0 n.moves)))) (NoTaker n p) (λ m. (m ≡ least_take n p) × IsLeastTake n p m)
   unfolding least_below
   least-found =

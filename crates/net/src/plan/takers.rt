@@ -10,10 +10,8 @@ impl Plan {
     pub fn largest_take(&self, p: u32) -> Option<u16>
         ensures { MatchOption result (NoTaker (net self.now) p) (λ n. (n ≡ largest_take (net self.now) p) × IsLargestTake (net self.now) p n) }
     {
-        (0..self.moves)
-            .map(|t| self.take(t, p))
-            .filter(|&n| n > 0)
-            .max()
+        let largest = (0..self.moves).map(|t| self.take(t, p)).max();
+        largest.filter(|&n| n > 0)
     }
 
     // The least take of place p over its takers, absent where it has none.
