@@ -8,7 +8,7 @@ use crate::place_set::PlaceSet;
 use net::MOST_PLACES;
 use weigh::Weighing;
 
-#[derive(Clone, Copy)]
+#[derive(Clone, Copy, Debug, PartialEq, Eq)]
 pub enum Certificate {
     // nothing is promised
     Blank,
@@ -34,10 +34,8 @@ impl Certificate {
             return None;
         }
         match kind {
-            Kind::Blank => match kind.first_refused(numbers) {
-                Some(_) => None,
-                None => Some(Certificate::Blank),
-            },
+            Kind::Blank if kind.first_refused(numbers).is_some() => None,
+            Kind::Blank => Some(Certificate::Blank),
             Kind::Ceiling => Some(Certificate::Ceiling {
                 weighing: Weighing::new(numbers)?,
                 ceiling,
@@ -82,10 +80,10 @@ impl Certificate {
     {
         match self {
             Certificate::Blank => 0,
-            Certificate::Ceiling { weighing, .. } => weighing.places(),
-            Certificate::NeverStuck { weighing } => weighing.places(),
-            Certificate::DeadSet { set } => set.places(),
-            Certificate::KeptSet { set } => set.places(),
+            Certificate::Ceiling { weighing, .. } | Certificate::NeverStuck { weighing } => {
+                weighing.places()
+            }
+            Certificate::DeadSet { set } | Certificate::KeptSet { set } => set.places(),
         }
     }
 
@@ -95,10 +93,12 @@ impl Certificate {
     {
         match self {
             Certificate::Blank => 0,
-            Certificate::Ceiling { weighing, .. } => weighing.weight(p).unwrap_or(0),
-            Certificate::NeverStuck { weighing } => weighing.weight(p).unwrap_or(0),
-            Certificate::DeadSet { set } => u16::from(set.contains(p)),
-            Certificate::KeptSet { set } => u16::from(set.contains(p)),
+            Certificate::Ceiling { weighing, .. } | Certificate::NeverStuck { weighing } => {
+                weighing.weight(p).unwrap_or(0)
+            }
+            Certificate::DeadSet { set } | Certificate::KeptSet { set } => {
+                u16::from(set.contains(p))
+            }
         }
     }
 }

@@ -6,5 +6,5 @@ mod kind;
 mod place_set;
 
 pub use certificate::Certificate;
-pub use kind::Kind;
+pub use kind::{Kind, UnknownKind};
 pub use place_set::PlaceSet;

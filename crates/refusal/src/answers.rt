@@ -1,8 +1,10 @@
 // The number, slot, spot and layer of each refusal, and how it is printed.
 ghost use Rattle.std.specs.Prelude.{◌≡◌, Some};
 ghost use Rattle.refusal.specs.Refusals.{answer_of, answer_of_sheet, printed};
+ghost use Rattle.refusal.specs.declared.refusals.Refusal.TheVariants.{Sheet};
 
 use crate::refusals::{Layer, Refusal, SheetRefusal};
+use std::error::Error;
 use std::fmt;
 
 impl SheetRefusal {
@@ -27,10 +29,10 @@ impl SheetRefusal {
         match *self {
             SheetRefusal::Short { length } => length,
             SheetRefusal::Length { smaller } => smaller,
-            SheetRefusal::Size { offset } => offset,
-            SheetRefusal::Kind { offset } => offset,
-            SheetRefusal::Weight { offset } => offset,
-            SheetRefusal::Field { offset } => offset,
+            SheetRefusal::Size { offset }
+            | SheetRefusal::Kind { offset }
+            | SheetRefusal::Weight { offset }
+            | SheetRefusal::Field { offset } => offset,
         }
     }
 }
@@ -70,6 +72,14 @@ impl Refusal {
     }
 }
 
+impl From<SheetRefusal> for Refusal {
+    ghost from_gives = { λ refusal answer. answer ≡ Sheet refusal };
+
+    fn from(error: SheetRefusal) -> Refusal {
+        Refusal::Sheet(error)
+    }
+}
+
 impl fmt::Display for Refusal {
     ghost output = { λ x. Some (printed (answer_of x)) };
 
@@ -80,3 +90,5 @@ impl fmt::Display for Refusal {
         write!(f, "no {number} {slot} {spot}")
     }
 }
+
+impl Error for Refusal {}

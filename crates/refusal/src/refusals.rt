@@ -1,5 +1,5 @@
 // The layer that found what is wrong.
-#[derive(Clone, Copy)]
+#[derive(Clone, Copy, Debug, PartialEq, Eq)]
 pub enum Layer {
     Sheet,
     Opening,
@@ -9,7 +9,7 @@ pub enum Layer {
 }
 
 // What is wrong with the bytes of a sheet. An offset is that of the wrong field.
-#[derive(Clone, Copy)]
+#[derive(Clone, Copy, Debug, PartialEq, Eq)]
 pub enum SheetRefusal {
     // there are fewer than 4 bytes
     Short { length: u32 },
@@ -25,7 +25,7 @@ pub enum SheetRefusal {
     Field { offset: u32 },
 }
 
-#[derive(Clone, Copy)]
+#[derive(Clone, Copy, Debug, PartialEq, Eq)]
 pub enum Refusal {
     Sheet(SheetRefusal),
 }

@@ -1,13 +1,14 @@
 -- From what is known at each stage of reading to the question that got a no.
 use Rattle.std.proofs.Common.{◌≡◌, ℕ, suc, ◌+◌, ◌-◌, ◌*◌, ◌<◌, ◌≤◌, Bool, true, false, List, [], ◌∷◌, length, get_or, sym, refl, ap, ◌∙◌, subst, inl, inr, ⊎_elim, arith, lit≤, below_none, below_more}
 use Rattle.std.proofs.lemmas.Bool.{cases_lt, both_ways}
-use Rattle.net.proofs.Rows.{arcs-within}
 use Rattle.clause.specs.Kinds.{code_of, lawful_number, lawful_ceiling}
 use Rattle.clause.specs.declared.kind.Kind.{Kind}
 use Rattle.clause.specs.declared.kind.Kind.TheVariants.{Blank, Ceiling, NeverStuck, DeadSet, KeptSet}
 use Rattle.sheet.specs.Layout.{word16, word64, places_in, moves_in, first_code, second_code, first_at, second_at, number_at, size_of}
 use Rattle.sheet.specs.Questions.{Outside, BadCertificate, Wrong, Lawful, FirstWrong}
-use Rattle.sheet.specs.Stages.{HeaderRead, ArcsLight, FirstHeavy, FieldsLawful, FirstUnlawful, ceiling, number}
+use Rattle.refusal.specs.declared.refusals.SheetRefusal.{SheetRefusal}
+use Rattle.refusal.specs.Refusals.{answer_of_sheet}
+use Rattle.sheet.specs.Stages.{Refused, HeaderRead, ArcsLight, FirstHeavy, FieldsLawful, FirstUnlawful, FieldRefused, ceiling, number}
 use Rattle.sheet.specs.declared.header.Header.{Header}
 
 -- every question before this one got a yes
@@ -19,8 +20,8 @@ abbrev Yes : List ℕ → ℕ → Type 0
 Yes bytes asked = (at : ℕ) → Wrong bytes asked at → ⊥
 
 -- within a range is not outside it
-pub inside : (low high n : ℕ) → low ≤ n → n ≤ high → Outside low high n → ⊥
-inside low high n l h = ⊎_elim (λ below. omega arith) (λ above. omega arith)
+pub inside : {low high n : ℕ} → low ≤ n → n ≤ high → Outside low high n → ⊥
+inside l h = ⊎_elim (λ below. omega arith) (λ above. omega arith)
 
 -- a code is at most 4
 pub code-low : (kind : Kind) → code_of kind ≤ 4
@@ -56,8 +57,8 @@ module _ (bytes : List ℕ) where
   pub passed-short : 4 ≤ length bytes → Passed bytes 2
   passed-short long = below_more (Yes bytes) 1 passed_none (λ at w. omega (arith, w.0))
 
-  pub passed-size : Passed bytes 2 → (Outside 1 16 (places_in bytes) → ⊥) → (Outside 1 32 (moves_in bytes) → ⊥) → Passed bytes 3
-  passed-size passed places moves = below_more (Yes bytes) 2 passed (λ at. ⊎_elim (λ w. places w.1) (λ w. moves w.1))
+  pub passed-size : Passed bytes 2 → 1 ≤ places_in bytes → places_in bytes ≤ 16 → 1 ≤ moves_in bytes → moves_in bytes ≤ 32 → Passed bytes 3
+  passed-size passed p q t u = below_more (Yes bytes) 2 passed (λ at. ⊎_elim (λ w. inside p q w.1) (λ w. inside t u w.1))
 
   pub passed-kind : Passed bytes 3 → (Outside 1 4 (first_code bytes) → ⊥) → second_code bytes ≤ 4 → Passed bytes 4
   passed-kind passed one two = below_more (Yes bytes) 3 passed (λ at. ⊎_elim (λ w. one w.1) (λ w. omega (arith, w.1)))
@@ -74,9 +75,8 @@ module _ (bytes : List ℕ) where
   -- the first four questions at once
   pub passed-header : (header : Header) → HeaderRead bytes header → Passed bytes 5
   passed-header header h =
-      let two = passed-size (passed-short h.long) (inside 1 16 (places_in bytes) h.some_places h.few_places) (inside 1 32 (moves_in bytes) h.some_moves h.few_moves) in
-      let code = code-low header.second in
-      let three = passed-kind two (inside 1 4 (first_code bytes) h.first_used (let low = code-low header.first in let e = h.first in omega arith)) (let e = h.second in omega arith) in
+      let two = passed-size (passed-short h.long) h.some_places h.few_places h.some_moves h.few_moves in
+      let three = passed-kind two (inside h.first_used (omega (arith, code-low header.first))) (omega (arith, code-low header.second)) in
       passed_length three h.size
 
   -- there is no question after the sixth
@@ -132,25 +132,25 @@ module _ {bytes : List ℕ} {header : Header} (h : HeaderRead bytes header) wher
   }
 
   -- so is the first unlawful field of the first certificate, which ends before the second starts
-  pub first-unlawful : {offset : ℕ} → ArcsLight bytes → FirstUnlawful bytes header.first (first_at bytes) offset → FirstWrong bytes 6 offset
-  first-unlawful {offset} light f =
-      let bad = first-bad h.first f in
-      let end = bad-within bytes (first_code bytes) (first_at bytes) offset bad in
-      record {
+  pub first-unlawful : (refusal : SheetRefusal) → ArcsLight bytes → FieldRefused bytes header.first (first_at bytes) refusal → Refused bytes refusal
+  first-unlawful refusal light f =
+      let bad = first-bad h.first f.1 in
+      let end = bad-within bytes (first_code bytes) (first_at bytes) (answer_of_sheet refusal).spot bad in
+      rw f.0 (record {
         wrong = inl bad;
         before = light-passed light;
         lowest = λ lower below. ⊎_elim
-            (none_below h.first f lower below)
+            (none_below h.first f.1 lower below)
             (λ w. omega (arith, (bad-within bytes (second_code bytes) (second_at bytes) lower w).0));
-      }
+      })
 
   -- and that of the second, where the first is lawful
-  pub second-unlawful : {offset : ℕ} → ArcsLight bytes → FieldsLawful bytes header.first (first_at bytes) → FirstUnlawful bytes header.second (second_at bytes) offset → FirstWrong bytes 6 offset
-  second-unlawful light first f = record {
-    wrong = inr (first-bad h.second f);
+  pub second-unlawful : (refusal : SheetRefusal) → ArcsLight bytes → FieldsLawful bytes header.first (first_at bytes) → FieldRefused bytes header.second (second_at bytes) refusal → Refused bytes refusal
+  second-unlawful refusal light first f = rw f.0 (record {
+    wrong = inr (first-bad h.second f.1);
     before = light-passed light;
-    lowest = λ lower below. ⊎_elim (fields-pass h.first first lower) (none_below h.second f lower below);
-  }
+    lowest = λ lower below. ⊎_elim (fields-pass h.first first lower) (none_below h.second f.1 lower below);
+  })
 
   -- every question gets a yes where both are lawful
   pub both-lawful : ArcsLight bytes → FieldsLawful bytes header.first (first_at bytes) → FieldsLawful bytes header.second (second_at bytes) → Lawful bytes
@@ -162,9 +162,3 @@ module _ {bytes : List ℕ} {header : Header} (h : HeaderRead bytes header) wher
 
   pub second-start : {start : ℕ} → start ≡ 4 + 4 * (header.moves * header.places) + 4 * header.places + 8 + 2 * header.places → start ≡ second_at bytes
   second-start is = cc
-
-  -- both lie within the bytes
-  pub certificate-fits : (start : ℕ) → start ≤ second_at bytes → (header.places ≡ places_in bytes) × (1 ≤ header.places) × (header.places ≤ 16) × (start + 8 + 2 * header.places ≤ length bytes) × (start ≤ 65535)
-  certificate-fits start early =
-      let arcs = arcs-within (places_in bytes) (moves_in bytes) h.few_places h.few_moves in
-      (h.places, omega arith, omega arith, omega arith, omega arith)

@@ -1,4 +1,4 @@
 pub mod Asked
-pub mod Fills
 pub mod Slices
+pub mod Arcs
 pub mod Agreeing

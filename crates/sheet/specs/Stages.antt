@@ -47,3 +47,7 @@ pub data FirstUnlawful (bytes : List ℕ) (kind : Kind) (start offset : ℕ) : T
   number : (p : ℕ) → offset ≡ number_at start p → p < places_in bytes → lawful_number kind (word16 bytes (number_at start p)) ≡ false
       → lawful_ceiling kind (word64 bytes start) ≡ true → ((k : ℕ) → k < p → lawful_number kind (word16 bytes (number_at start k)) ≡ true)
       → FirstUnlawful bytes kind start offset
+
+-- the refusal names the first unlawful field of this certificate
+abbrev pub FieldRefused : List ℕ → Kind → ℕ → SheetRefusal → Type 0
+FieldRefused bytes kind start refusal = ((answer_of_sheet refusal).number ≡ 6) × FirstUnlawful bytes kind start (answer_of_sheet refusal).spot

@@ -2,6 +2,7 @@
 #![tactic(auto)]
 
 mod fields;
+mod framed;
 mod header;
 mod reading;
 mod sheets;

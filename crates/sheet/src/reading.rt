@@ -5,8 +5,7 @@ ghost use Rattle.sheet.specs.Agreed.{OnlyReading};
 ghost use Rattle.sheet.specs.Questions.{Lawful};
 ghost use Rattle.sheet.specs.Stages.{Refused};
 
-use crate::fields;
-use crate::header::Header;
+use crate::framed::Framed;
 use crate::sheets::Sheet;
 use net::ReadPlan;
 use refusal::{Refusal, SheetRefusal};
@@ -14,27 +13,14 @@ use refusal::{Refusal, SheetRefusal};
 fn read_fields(bytes: &[u8]) -> Result<Sheet, SheetRefusal>
     ensures { MatchResult result (λ sheet. Lawful bytes.now × Spells bytes.now sheet) (λ e. Refused bytes.now e) }
 {
-    let header = Header::read(bytes)?;
-    let plan = match fields::plan(bytes, &header) {
-        Ok(plan) => plan,
-        Err(offset) => return Err(SheetRefusal::Weight { offset }),
-    };
-    let counts = fields::counts(bytes, &header);
-    let first = match fields::certificate(bytes, header.places, header.first, header.first_at()) {
-        Ok(first) => first,
-        Err(offset) => return Err(SheetRefusal::Field { offset }),
-    };
-    let second = match fields::certificate(
-        bytes,
-        header.places,
-        header.second,
-        header.second_at(),
-    ) {
-        Ok(second) => second,
-        Err(offset) => return Err(SheetRefusal::Field { offset }),
-    };
+    let framed = Framed::read(bytes)?;
+    let header = framed.header;
+    let plan = framed.plan()?;
+    let counts = framed.counts();
+    let first = framed.certificate(header.first, header.first_at())?;
+    let second = framed.certificate(header.second, header.second_at())?;
     Ok(Sheet {
-        state: ReadPlan::of(&plan),
+        state: ReadPlan::from(&plan),
         plan,
         counts,
         first,
@@ -47,8 +33,5 @@ pub fn read(bytes: &[u8]) -> Result<Sheet, Refusal>
     ensures reading { IsReading bytes.now result }
     ensures only { OnlyReading bytes.now result }
 {
-    match read_fields(bytes) {
-        Ok(sheet) => Ok(sheet),
-        Err(refusal) => Err(Refusal::Sheet(refusal)),
-    }
+    read_fields(bytes).map_err(Refusal::from)
 }

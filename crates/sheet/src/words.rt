@@ -1,48 +1,64 @@
 // Numbers in a sheet are low byte first.
-ghost use Rattle.std.specs.Prelude.{◌≡◌, ℕ, ◌+◌, ◌*◌, ◌<◌, ◌≤◌, length, slice_index};
-ghost use Rattle.sheet.specs.Layout.{word16 as word_of_16, word32 as word_of_32, word64 as word_of_64};
+ghost use Rattle.std.specs.Prelude.{◌≡◌, ℕ, ◌+◌, ◌*◌, ◌<◌, ◌≤◌, List, length, slice_index_or};
+ghost use Rattle.sheet.specs.Layout.{word16, word32, word64};
 
-pub(crate) fn word16(bytes: &[u8], at: usize) -> u16
-    requires { at + 2 ≤ length bytes.now }
-    ensures { result ≡ word_of_16 bytes.now at }
-{
-    u16::from_le_bytes([bytes[at], bytes[at + 1]])
+// A number of a sheet, by how many bytes it takes and which number the bytes at an offset spell.
+pub(crate) trait Word: Copy + Default {
+    ghost WIDTH: { ℕ };
+
+    ghost spelled: { List ℕ → ℕ → Self };
+
+    const WIDTH: usize;
+
+    fn read(bytes: &[u8], at: usize) -> Self
+        requires { at + WIDTH ≤ length bytes.now }
+        ensures { result ≡ spelled bytes.now at };
 }
 
-pub(crate) fn word32(bytes: &[u8], at: usize) -> u32
-    requires { at + 4 ≤ length bytes.now }
-    ensures { result ≡ word_of_32 bytes.now at }
-{
-    u32::from(word16(bytes, at)) + u32::from(word16(bytes, at + 2)) * 65536
-}
+impl Word for u16 {
+    ghost WIDTH = { 2 };
 
-pub(crate) fn word64(bytes: &[u8], at: usize) -> u64
-    requires { at + 8 ≤ length bytes.now }
-    ensures { result ≡ word_of_64 bytes.now at }
-{
-    u64::from(word32(bytes, at)) + u64::from(word32(bytes, at + 4)) * 4294967296
-}
+    ghost spelled = { word16 };
 
-// The next `count` numbers of 16 bits.
-pub(crate) fn words16<const N: usize>(bytes: &[u8], at: usize, count: usize) -> [u16; N]
-    requires { (count ≤ N) × (at + 2 * count ≤ length bytes.now) }
-    ensures { (k : ℕ) → k < count → slice_index result k ≡ word_of_16 bytes.now (at + 2 * k) }
-{
-    let mut words = [0u16; N];
-    for k in 0..count {
-        words[k] = word16(bytes, at + 2 * k);
+    const WIDTH: usize = 2;
+
+    fn read(bytes: &[u8], at: usize) -> u16 {
+        u16::from_le_bytes(*bytes[at..].first_chunk().unwrap())
     }
-    words
 }
 
-// The next `count` numbers of 32 bits.
-pub(crate) fn words32<const N: usize>(bytes: &[u8], at: usize, count: usize) -> [u32; N]
-    requires { (count ≤ N) × (at + 4 * count ≤ length bytes.now) }
-    ensures { (k : ℕ) → k < count → slice_index result k ≡ word_of_32 bytes.now (at + 4 * k) }
+impl Word for u32 {
+    ghost WIDTH = { 4 };
+
+    ghost spelled = { word32 };
+
+    const WIDTH: usize = 4;
+
+    fn read(bytes: &[u8], at: usize) -> u32 {
+        u32::from_le_bytes(*bytes[at..].first_chunk().unwrap())
+    }
+}
+
+impl Word for u64 {
+    ghost WIDTH = { 8 };
+
+    ghost spelled = { word64 };
+
+    const WIDTH: usize = 8;
+
+    fn read(bytes: &[u8], at: usize) -> u64 {
+        u64::from_le_bytes(*bytes[at..].first_chunk().unwrap())
+    }
+}
+
+// The next `count` numbers.
+pub(crate) fn words<W: Word, const N: usize>(bytes: &[u8], at: usize, count: usize) -> [W; N]
+    requires { (count ≤ N) × (at + W.WIDTH * count ≤ length bytes.now) }
+    ensures { (k : ℕ) (none : W) → k < count → slice_index_or result k none ≡ W.spelled bytes.now (at + W.WIDTH * k) }
 {
-    let mut words = [0u32; N];
+    let mut words = [W::default(); N];
     for k in 0..count {
-        words[k] = word32(bytes, at + 4 * k);
+        words[k] = W::read(bytes, at + W::WIDTH * k);
     }
     words
 }

@@ -1,4 +1,4 @@
 pub mod Sums
 pub mod Laws
 pub mod Weights
-pub mod Turns
+pub mod Finding

@@ -8,7 +8,7 @@ mod sums;
 pub const MOST_WEIGHT: u16 = 1000;
 
 // A weight for each of 1 to 16 places. No weight is 0, so nothing that receives a weighing tests for it.
-#[derive(Clone, Copy)]
+#[derive(Clone, Copy, Debug, PartialEq, Eq)]
 pub struct Weighing {
     weights: [u16; 16],
     len: u32,

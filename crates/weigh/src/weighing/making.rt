@@ -10,17 +10,16 @@ impl Weighing {
     pub fn new(numbers: &[u16]) -> Option<Weighing>
         ensures { MatchOption result (AreWeights numbers.now → ⊥) (λ w. AreWeights numbers.now × (weights_of w ≡ numbers.now)) }
     {
-        if numbers.is_empty() || numbers.len() > MOST_PLACES as usize {
+        if numbers.is_empty()
+            || numbers.len() > MOST_PLACES as usize
+            || numbers
+                .iter()
+                .any(|&weight| weight < 1 || weight > MOST_WEIGHT)
+        {
             return None;
         }
         let mut weights = [0u16; 16];
-        for p in 0..numbers.len() {
-            let weight = numbers[p];
-            if weight < 1 || weight > MOST_WEIGHT {
-                return None;
-            }
-            weights[p] = weight;
-        }
+        weights[..numbers.len()].copy_from_slice(numbers);
         Some(Weighing {
             weights,
             len: numbers.len() as u32,
@@ -34,14 +33,17 @@ impl Weighing {
         self.len
     }
 
+    // The weight of each place.
+    pub fn weights(&self) -> &[u16]
+        ensures { result.now ≡ weights_of self.now }
+    {
+        &self.weights[..self.len as usize]
+    }
+
     // The weight of a place, absent where the weighing has no such place.
     pub fn weight(&self, p: u32) -> Option<u16>
         ensures { MatchOption result (length (weights_of self.now) ≤ p) (λ n. (p < length (weights_of self.now)) × (n ≡ slice_index (weights_of self.now) p) × (1 ≤ n) × (n ≤ 1000)) }
     {
-        if p < self.len {
-            Some(self.weights[p as usize])
-        } else {
-            None
-        }
+        self.weights().get(p as usize).copied()
     }
 }

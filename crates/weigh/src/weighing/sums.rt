@@ -1,5 +1,6 @@
 // The weighed and the useful sum.
-ghost use Rattle.std.specs.Prelude.{◌≡◌, ◌*◌, ◌/◌, ◌<◌, ◌≤◌};
+ghost use Rattle.std.specs.Prelude.{◌≡◌, ℕ, ◌*◌, ◌/◌, ◌<◌, length, slice_index};
+ghost use Rattle.net.specs.Sums.{sum_below};
 ghost use Rattle.net.specs.Marking.{marking};
 ghost use Rattle.net.specs.Model.{net};
 ghost use Rattle.weigh.specs.Weights.{weights_of};
@@ -8,14 +9,6 @@ ghost use Rattle.weigh.specs.Balance.{FiringKeepsWeighed, FiringKeepsUseful};
 
 use super::Weighing;
 use net::{Counts, Plan};
-
-// A weight times a count.
-fn product(weight: u16, count: u32) -> u64
-    requires { weight ≤ 1000 }
-    ensures { (result ≡ weight * count) × (result ≤ 4294967295000) }
-{
-    u64::from(weight) * u64::from(count)
-}
 
 // The count without the remainder below the unit.
 fn whole_units(count: u32, unit: u32) -> u32
@@ -26,16 +19,24 @@ fn whole_units(count: u32, unit: u32) -> u32
 }
 
 impl Weighing {
+    // Weight × number, over all places. A closure says the number at a place.
+    pub(super) fn sum_with<F: Fn(u32) -> u32>(&self, number_at: F) -> u64
+        requires { (p : ℕ) → p < self.now.len → F.pre number_at p }
+        ensures { (numbers : ℕ → ℕ) → ((p n : ℕ) → F.post number_at p n → n ≡ numbers p) → result ≡ sum_below (length (weights_of self.now)) (λ p. slice_index (weights_of self.now) p * numbers p) }
+    {
+        let mut sum = 0u64;
+        for (p, &weight) in self.weights().iter().enumerate() {
+            sum += u64::from(weight) * u64::from(number_at(p as u32));
+        }
+        sum
+    }
+
     // Weight × count, over all places. Firing keeps it in every plan that this weighing balances.
     pub fn weighed_sum(&self, counts: &Counts) -> u64
         ensures value { result ≡ weighed (weights_of self.now) (marking counts.now) }
         ensures kept { FiringKeepsWeighed (weights_of self.now) }
     {
-        let mut sum = 0u64;
-        for p in 0..self.len {
-            sum += product(self.weights[p as usize], counts.held(p));
-        }
-        sum
+        self.sum_with(|p| counts.held(p))
     }
 
     // Weight × unit × (count divided by unit, rounded down), over all places. Firing keeps it if this weighing balances the plan.
@@ -43,11 +44,6 @@ impl Weighing {
         ensures value { result ≡ useful (net plan.now) (weights_of self.now) (marking counts.now) }
         ensures kept { FiringKeepsUseful (net plan.now) (weights_of self.now) }
     {
-        let mut sum = 0u64;
-        for p in 0..self.len {
-            let whole = whole_units(counts.held(p), plan.unit(p));
-            sum += product(self.weights[p as usize], whole);
-        }
-        sum
+        self.sum_with(|p| whole_units(counts.held(p), plan.unit(p)))
     }
 }

@@ -1,19 +1,13 @@
-use Rattle.std.proofs.Common.{◌≡◌, length, ◌∙◌, arith, length-set, below_more}
-use Rattle.std.proofs.lemmas.List.{take_all}
-use Rattle.clause.proofs.Sets.{numbers_more}
+use Rattle.std.proofs.Common.{ℕ, ◌<◌, ◌≤◌, eqb, length, get_or, rules, arith}
+use Rattle.clause.proofs.Sets.{get_or-from_fn, numbers_of_ones}
 use Rattle.clause.proofs.place_set.PlaceSet.from_numbers.Goals as goal
-
-pub loop-p-preserved : goal.loop-p-preserved
-loop-p-preserved c =
-    let inv = c.loop-p.invariant in (
-      simp length-set inv.0,
-      numbers_more c.args.numbers.now c.loop-p.members c.loop-p.p (omega arith) (omega arith) (omega arith) inv.1,
-      below_more _ _ inv.2 (omega arith),
-    )
 
 pub returns : goal.returns
 returns c =
     let ns = c.args.numbers.now in
-    let inv = c.loop-p.invariant in
-    let end : c.loop-p.p ≡ length ns = omega arith in
-    ((omega arith, omega arith, λ k h. inv.2 k (omega arith)), rw end at inv.1 ∙ take_all (length ns) ns (omega arith))
+    let small : (k : ℕ) → k < length ns → get_or ns k 0 ≤ 1 = search rules in
+    let made = c.from_fn.ensures.items in (
+      (omega arith, omega arith, small),
+      numbers_of_ones ns c.from_fn.result (omega (arith, made.long)) small
+          (λ k below. get_or-from_fn _ _ (λ i. eqb (get_or ns i 0) 1) (λ i y q call. search rules) c.from_fn.result 0 16 made.each k _ (omega arith) (omega arith)),
+    )

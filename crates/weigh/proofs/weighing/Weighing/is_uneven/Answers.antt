@@ -29,8 +29,8 @@ returns c =
     let w = c.args.self.now in
     let n = net c.args.plan.now in
     let t = c.args.t in
-    let takes = c.in-Some.ensures in
-    let gives = c.in-Some-gives_of.ensures in
+    let takes = c.in-Some-Some.ensures in
+    let gives = c.in-Some-Some.ensures' in
     let long : length (weights_of w) ≡ n.places = weights-long w ∙ c.requires in
     differ-tips n (weights_of w) long t c.weigh_row.result c.weigh_row-2.result takes.0
     (c.weigh_row.ensures ∙ row-weight n (weights_of w) long t n.takes _ takes.1)

@@ -1,7 +1,0 @@
-use Rattle.std.proofs.Common.{◌+◌, ◌*◌}
-use Rattle.sheet.specs.Layout.{word16}
-use Rattle.sheet.proofs.Fills.{Filled}
-use Rattle.sheet.proofs.words.words16.Given as goal
-
-abbrev pub invariant-loop-k : goal.invariant-loop-k
-invariant-loop-k g l = Filled g.row.N (λ j. word16 l.bytes (l.at + 2 * j)) l.k l.words
