@@ -1,4 +1,5 @@
 ghost use Rattle.std.specs.Prelude.{◌≡◌, ◌<◌, ◌≤◌, length, MatchOption, slice_index};
+ghost use Rattle.net.specs.Answers.{AnswersAt};
 ghost use Rattle.net.specs.Marking.{marking};
 
 use super::Counts;
@@ -35,7 +36,7 @@ impl Counts {
 
     // The count at a place, absent where there is no such place.
     pub fn count(&self, p: u32) -> Option<u32>
-        ensures { MatchOption result (length (marking self.now) ≤ p) (λ n. (p < length (marking self.now)) × (n ≡ slice_index (marking self.now) p)) }
+        ensures { AnswersAt (marking self.now) p result }
     {
         self.numbers().get(p as usize).copied()
     }
