@@ -1,3 +1,2 @@
 pub mod EvenLimits
-pub mod OnNumbers
 pub mod OnBytes

@@ -1,10 +1,10 @@
 -- A board on bytes.
-use Rattle.std.proofs.Common.{◌≡◌, ℕ, ◌+◌, ◌*◌, ◌/◌, ◌%◌, ◌<◌, ◌≤◌, ◌≢◌, List, length, get_or, drop, set, sym, ap, ◌∙◌, ⊎_elim, arith, length-set}
+use Rattle.std.proofs.Common.{◌≡◌, ℕ, zero, suc, [], ◌∷◌, refl, take, ◌+◌, ◌*◌, ◌/◌, ◌%◌, ◌<◌, ◌≤◌, ◌≢◌, List, length, get_or, drop, set, sym, ap, ◌∙◌, arith, length-set, drop-drop, add-one, get_or-take, get_or-drop}
 use Rattle.std.proofs.lemmas.List.{get_or-set_same, get_or-set_other, drop-set-lt}
 use Rattle.std.proofs.lemmas.List.FromFn.{length-map-range_with_len, get_or-map-range_with_len, fill_by_all}
-use Rattle.std.proofs.lemmas.Bool.{cases_eq}
+use Rattle.std.specs.Simd.{first_chunks}
+use borrow.Rule.Slice.PartMut.{put_mid}
 use Rattle.board.specs.Bytes.{pair_at, pairs_in, byte_counts, byte_limits, bytes_past}
-use Rattle.board.proofs.EvenLimits.{even-same}
 
 -- one count for each pair
 pub counts-long : (bytes : List ℕ) → length (byte_counts bytes) ≡ pairs_in bytes
@@ -18,6 +18,26 @@ pair-within bytes p there = omega (arith, counts-long bytes)
 pub count_at : (bytes : List ℕ) (p : ℕ) → p < length (byte_counts bytes) → pair_at bytes p ≡ get_or (byte_counts bytes) p 0
 count_at bytes p there = sym (get_or-map-range_with_len (pair_at bytes) 0 (pairs_in bytes) p p 0 (omega (arith, counts-long bytes)) (omega arith))
 
+-- a write of two bytes
+pub two-written : (at k : ℕ) (xs : List ℕ) (low high : ℕ) → k ≡ 2 → at + 1 < length xs → put_mid at k xs (low ∷ high ∷ []) ≡ set (set xs at low) (at + 1) high
+two-written at k [] low high two within = absurd (omega arith)
+two-written zero k (x ∷ []) low high two within = absurd (omega arith)
+two-written zero k (x ∷ y ∷ xs) low high two within = rw two refl
+two-written (suc at) k (x ∷ xs) low high two within = rw add-one (ap (λ ys. x ∷ ys) (rw add-one at (two-written at k xs low high two (omega arith))))
+
+-- the pairs of bytes
+chunk_at : (k i : ℕ) (xs none : List ℕ) → i < k → get_or (first_chunks 2 k xs) i none ≡ take 2 (drop (2 * i) xs)
+chunk_at zero i xs none below = absurd (omega arith)
+chunk_at (suc k) zero xs none below = refl
+chunk_at (suc k) (suc i) xs none below = chunk_at k i (drop 2 xs) none (omega arith) ∙ ap (λ ys. take 2 ys) (drop-drop (2 * i) 2 xs ∙ ap (λ m. drop m xs) (omega arith))
+
+pub pair-spelled : (bytes : List ℕ) (p : ℕ) (pair : List ℕ) → p < length (byte_counts bytes) → pair ≡ get_or (first_chunks 2 (pairs_in bytes) bytes) p pair
+    → get_or pair 0 0 + get_or pair 1 0 * 256 ≡ get_or (byte_counts bytes) p 0
+pair-spelled bytes p pair there is =
+    let two : pair ≡ take 2 (drop (2 * p) bytes) = is ∙ chunk_at (pairs_in bytes) p bytes pair (omega (arith, counts-long bytes)) in
+    let after = drop (2 * p) bytes in
+    rw two (grind (arith, count_at bytes p there, get_or-take 2 after 0 0, get_or-take 2 after 1 0, get_or-drop (2 * p) bytes 0 0, get_or-drop (2 * p) bytes 1 0))
+
 -- the two bytes of a number
 pub spelled : (n : ℕ) → n ≤ 65535 → n % 256 + (n / 256 % 256) * 256 ≡ n
 spelled n small = omega arith
@@ -27,39 +47,24 @@ module _ (bytes : List ℕ) (p : ℕ) (there : p < length (byte_counts bytes)) (
   abbrev written : List ℕ
   written = set (set bytes (2 * p) low) (2 * p + 1) high
 
-  written-long : length written ≡ length bytes
-  written-long = length-set (set bytes (2 * p) low) (2 * p + 1) high ∙ length-set bytes (2 * p) low
-
   pairs-after : pairs_in written ≡ pairs_in bytes
-  pairs-after = omega (arith, written-long)
+  pairs-after = simp length-set
 
   pair-here : pair_at written p ≡ low + high * 256
-  pair-here =
-      let within = pair-within bytes p there in
-      let ne : 2 * p ≢ 2 * p + 1 = omega arith in
-      let first : get_or written (2 * p) 0 ≡ low = get_or-set_other (set bytes (2 * p) low) (2 * p + 1) (2 * p) high 0 ne ∙ get_or-set_same bytes (2 * p) low 0 (omega arith) in
-      let second : get_or written (2 * p + 1) 0 ≡ high = get_or-set_same (set bytes (2 * p) low) (2 * p + 1) high 0 (omega (arith, length-set bytes (2 * p) low)) in
-      omega arith
-
-  byte-elsewhere : (k : ℕ) → k ≢ 2 * p → k ≢ 2 * p + 1 → get_or written k 0 ≡ get_or bytes k 0
-  byte-elsewhere k first second = get_or-set_other (set bytes (2 * p) low) (2 * p + 1) k high 0 second ∙ get_or-set_other bytes (2 * p) k low 0 first
+  pair-here = let within = pair-within bytes p there in grind (arith, get_or-set_same, get_or-set_other, length-set)
 
   pair-elsewhere : (k : ℕ) → k ≢ p → pair_at written k ≡ pair_at bytes k
-  pair-elsewhere k ne = omega (arith, byte-elsewhere (2 * k) (omega arith) (omega arith), byte-elsewhere (2 * k + 1) (omega arith) (omega arith))
+  pair-elsewhere k ne = grind (arith, get_or-set_other)
+
+  pair-after : (k : ℕ) → k < pairs_in written → get_or (set (byte_counts bytes) p (low + high * 256)) k 0 ≡ pair_at written k
+  pair-after k below = grind (arith, get_or-set_same, get_or-set_other, count_at bytes k, counts-long bytes, pairs-after, pair-here, pair-elsewhere k)
 
   pub counts-after : byte_counts written ≡ set (byte_counts bytes) p (low + high * 256)
-  counts-after =
-      let n = low + high * 256 in
-      let before = byte_counts bytes in
-      sym (fill_by_all (pair_at written) (set before p n) (pairs_in written) 0
-      (length-set before p n ∙ counts-long bytes ∙ sym pairs-after)
-      (λ k below. ⊎_elim
-      (λ same. ap (λ j. get_or (set before p n) j 0) same ∙ get_or-set_same before p n 0 there ∙ sym pair-here ∙ ap (pair_at written) (sym same))
-      (λ ne. get_or-set_other before p k n 0 ne ∙ sym (count_at bytes k (omega (arith, counts-long bytes, pairs-after))) ∙ sym (pair-elsewhere k ne))
-      (cases_eq k p)))
+  counts-after = sym (fill_by_all (pair_at written) (set (byte_counts bytes) p (low + high * 256)) (pairs_in written) 0
+      (length-set (byte_counts bytes) p (low + high * 256) ∙ counts-long bytes ∙ sym pairs-after) pair-after)
 
   pub limits-after : byte_limits written ≡ byte_limits bytes
-  limits-after = even-same (byte_counts bytes) (byte_counts written) 65535 (counts-long written ∙ pairs-after ∙ sym (counts-long bytes))
+  limits-after = rw counts-after (simp length-set)
 
   pub past_after : bytes_past written ≡ bytes_past bytes
   past_after =

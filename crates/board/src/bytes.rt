@@ -1,15 +1,14 @@
 // A board on bytes: two to a place, low byte first, at most 16 places.
-ghost use Rattle.std.specs.Prelude.{◌≡◌};
+ghost use Rattle.std.specs.Prelude.{◌≡◌, length};
 ghost use Rattle.net.specs.Answers.{AnswersAt};
-ghost use Rattle.board.specs.Bytes.{byte_counts, byte_limits, bytes_past};
+ghost use Rattle.std.specs.Simd.{first_chunks};
+ghost use Rattle.board.specs.Bytes.{pairs_in, byte_counts, byte_limits, bytes_past};
 ghost use Rattle.board.specs.Frames.{LentFrame};
-ghost use Rattle.board.specs.Few.{bytes-few};
+ghost use Rattle.std.proofs.Common.{arith};
+ghost use Rattle.std.proofs.lemmas.List.FromFn.{length-map-range_with_len};
 
 use crate::meaning::{Board, NotSet, ReadBoard};
 use net::MOST_PLACES;
-
-// The most that two bytes can spell.
-const MOST_IN_A_PAIR: u32 = 65535;
 
 #[derive(Drop)]
 pub struct ByteBoard<'m> {
@@ -27,36 +26,37 @@ impl<'m> ByteBoard<'m> {
 }
 
 impl ByteBoard<'_> {
+    // The pairs of bytes that spell counts.
+    fn pairs(&self) -> &[[u8; 2]]
+        ensures long { length result.now ≡ pairs_in self.now.bytes.now }
+        ensures pairs { result.now ≡ first_chunks 2 (pairs_in self.now.bytes.now) self.now.bytes.now }
+    {
+        let (pairs, _) = self.bytes.as_chunks::<2>();
+        &pairs[..pairs.len().min(MOST_PLACES as usize)]
+    }
+
     // The two bytes of a place as a number.
     fn pair(&self, p: u32) -> Option<u16>
         ensures { AnswersAt (byte_counts self.now.bytes.now) p result }
     {
-        if p < self.places() {
-            let at = 2 * p as usize;
-            let low = self.bytes[at];
-            let high = self.bytes[at + 1];
-            Some(u16::from_le_bytes([low, high]))
-        } else {
-            None
-        }
+        self.pairs()
+            .get(p as usize)
+            .map(|pair| u16::from_le_bytes(*pair))
     }
 }
 
 impl<'m> ReadBoard for ByteBoard<'m> {
     ghost counts = { λ b. byte_counts b.bytes.now };
 
-    ghost few = { λ b. bytes-few b.bytes.now };
-
     fn places(&self) -> u32 {
-        (self.bytes.len() / 2).min(MOST_PLACES as usize) as u32
+        self.pairs().len() as u32
     }
 
     fn count(&self, p: u32) -> Option<u32> {
-        match self.pair(p) {
-            Some(n) => Some(u32::from(n)),
-            None => None,
-        }
+        self.pair(p).map(u32::from)
     }
+
+    ghost few = { λ _. Prim.grind (arith, length-map-range_with_len) };
 }
 
 impl<'m> Board for ByteBoard<'m> {
@@ -67,20 +67,18 @@ impl<'m> Board for ByteBoard<'m> {
     ghost kept = { λ b. record { memory = b.bytes.ghost_name; past = bytes_past b.bytes.now } };
 
     fn limit(&self, p: u32) -> Option<u32> {
-        match self.pair(p) {
-            Some(_n) => Some(MOST_IN_A_PAIR),
-            None => None,
-        }
+        self.pair(p).map(|_| u32::from(u16::MAX))
     }
 
     fn set(&mut self, p: u32, n: u32) -> Result<(), NotSet> {
-        if p >= self.places() || n > MOST_IN_A_PAIR {
+        let Ok(n) = u16::try_from(n) else {
+            return Err(NotSet);
+        };
+        if p >= self.places() {
             return Err(NotSet);
         }
         let at = 2 * p as usize;
-        let [low, high] = (n as u16).to_le_bytes();
-        self.bytes[at] = low;
-        self.bytes[at + 1] = high;
+        self.bytes[at..at + 2].copy_from_slice(&n.to_le_bytes());
         Ok(())
     }
 }

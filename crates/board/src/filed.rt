@@ -1,14 +1,12 @@
 // The counts that are filed in a sheet, or copied from a board: they can be read, and nothing writes them.
 ghost use Rattle.net.specs.Marking.{marking};
-ghost use Rattle.board.specs.Few.{marking-few};
+ghost use Rattle.std.proofs.Common.{arith, length-take};
 
 use crate::meaning::ReadBoard;
 use net::Counts;
 
 impl ReadBoard for Counts {
     ghost counts = { marking };
-
-    ghost few = { marking-few };
 
     fn places(&self) -> u32 {
         Counts::places(self)
@@ -17,4 +15,6 @@ impl ReadBoard for Counts {
     fn count(&self, p: u32) -> Option<u32> {
         Counts::count(self, p)
     }
+
+    ghost few = { λ counts. Prim.omega (arith, length-take counts.len counts.held, counts.few) };
 }

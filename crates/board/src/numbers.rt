@@ -2,7 +2,7 @@
 ghost use Rattle.std.specs.Prelude.{◌≡◌};
 ghost use Rattle.board.specs.Numbers.{number_counts, number_limits, numbers_past};
 ghost use Rattle.board.specs.Frames.{LentFrame};
-ghost use Rattle.board.specs.Few.{numbers-few};
+ghost use Rattle.std.proofs.Common.{arith, length-take};
 
 use crate::meaning::{Board, NotSet, ReadBoard};
 use net::MOST_PLACES;
@@ -22,22 +22,27 @@ impl<'m> NumberBoard<'m> {
     }
 }
 
+impl NumberBoard<'_> {
+    // The numbers that are counts.
+    fn held(&self) -> &[u32]
+        ensures { result.now ≡ number_counts self.now.numbers.now }
+    {
+        &self.numbers[..self.numbers.len().min(MOST_PLACES as usize)]
+    }
+}
+
 impl<'m> ReadBoard for NumberBoard<'m> {
     ghost counts = { λ b. number_counts b.numbers.now };
 
-    ghost few = { λ b. numbers-few b.numbers.now };
-
     fn places(&self) -> u32 {
-        self.numbers.len().min(MOST_PLACES as usize) as u32
+        self.held().len() as u32
     }
 
     fn count(&self, p: u32) -> Option<u32> {
-        if p < self.places() {
-            Some(self.numbers[p as usize])
-        } else {
-            None
-        }
+        self.held().get(p as usize).copied()
     }
+
+    ghost few = { λ _. Prim.grind (arith, length-take) };
 }
 
 impl<'m> Board for NumberBoard<'m> {
@@ -48,10 +53,7 @@ impl<'m> Board for NumberBoard<'m> {
     ghost kept = { λ b. record { memory = b.numbers.ghost_name; past = numbers_past b.numbers.now } };
 
     fn limit(&self, p: u32) -> Option<u32> {
-        match self.count(p) {
-            Some(_n) => Some(u32::MAX),
-            None => None,
-        }
+        self.count(p).map(|_| u32::MAX)
     }
 
     fn set(&mut self, p: u32, n: u32) -> Result<(), NotSet> {

@@ -1,5 +1,5 @@
 // The boards that stand by themselves.
-use board::{Board, ByteBoard, NumberBoard, ReadBoard};
+use board::{Board, ByteBoard, NotSet, NumberBoard, ReadBoard};
 use net::Counts;
 use std::test::Fail;
 
@@ -10,13 +10,13 @@ fn no_memory_has_no_place(rt: HostRuntime) {
     assert_eq!(rt; board.places(), 0);
     assert_eq!(rt; board.count(0), None);
     assert_eq!(rt; board.limit(0), None);
-    assert!(rt; board.set(0, 0).is_err());
+    assert_eq!(rt; board.set(0, 0), Err(NotSet));
     let mut byte = [7u8; 1];
     let mut board = ByteBoard::new(&mut byte);
     assert_eq!(rt; board.places(), 0);
     assert_eq!(rt; board.count(0), None);
     assert_eq!(rt; board.limit(0), None);
-    assert!(rt; board.set(0, 0).is_err());
+    assert_eq!(rt; board.set(0, 0), Err(NotSet));
 }
 
 #[test]
@@ -24,8 +24,8 @@ fn numbers_past_the_sixteenth(rt: HostRuntime) {
     let mut numbers = [9u32; 18];
     let mut board = NumberBoard::new(&mut numbers);
     assert_eq!(rt; board.places(), 16);
-    assert!(rt; board.set(15, u32::MAX).is_ok());
-    assert!(rt; board.set(16, 1).is_err());
+    assert_eq!(rt; board.set(15, u32::MAX), Ok(()));
+    assert_eq!(rt; board.set(16, 1), Err(NotSet));
     assert_eq!(rt; board.count(15), Some(u32::MAX));
     assert_eq!(rt; board.limit(15), Some(u32::MAX));
     assert_eq!(rt; board.count(16), None);
@@ -45,11 +45,11 @@ fn low_byte_first_and_an_odd_last_byte(rt: HostRuntime) {
     assert_eq!(rt; board.count(1), Some(1027));
     assert_eq!(rt; board.count(2), None);
     assert_eq!(rt; board.limit(1), Some(65535));
-    assert!(rt; board.set(1, 258).is_ok());
-    assert!(rt; board.set(0, 65536).is_err());
-    assert!(rt; board.set(2, 0).is_err());
+    assert_eq!(rt; board.set(1, 258), Ok(()));
+    assert_eq!(rt; board.set(0, 65536), Err(NotSet));
+    assert_eq!(rt; board.set(2, 0), Err(NotSet));
     assert_eq!(rt; board.count(0), Some(513));
-    assert!(rt; board.set(0, 65535).is_ok());
+    assert_eq!(rt; board.set(0, 65535), Ok(()));
     assert_eq!(rt; bytes, [255, 255, 2, 1, 5]);
 }
 
@@ -58,8 +58,8 @@ fn bytes_past_the_sixteenth_place(rt: HostRuntime) {
     let mut bytes = [8u8; 35];
     let mut board = ByteBoard::new(&mut bytes);
     assert_eq!(rt; board.places(), 16);
-    assert!(rt; board.set(15, 0).is_ok());
-    assert!(rt; board.set(16, 0).is_err());
+    assert_eq!(rt; board.set(15, 0), Ok(()));
+    assert_eq!(rt; board.set(16, 0), Err(NotSet));
     assert_eq!(rt; board.count(16), None);
     assert_eq!(rt; board.limit(16), None);
     assert_eq!(rt; bytes[29], 8);
@@ -70,9 +70,7 @@ fn bytes_past_the_sixteenth_place(rt: HostRuntime) {
 
 #[test]
 fn filed_counts_are_read(rt: HostRuntime) -> Result<(), Fail> {
-    let Some(filed) = Counts::new(&[6, 0, 4294967295]) else {
-        return Err(Fail::new("too many"));
-    };
+    let filed = Counts::new(&[6, 0, 4294967295]).ok_or_else(|| Fail::new("too many"))?;
     assert_eq!(rt; filed.places(), 3);
     assert_eq!(rt; ReadBoard::count(&filed, 2), Some(4294967295));
     assert_eq!(rt; ReadBoard::count(&filed, 3), None);

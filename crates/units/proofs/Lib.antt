@@ -1,4 +1,3 @@
 pub mod Over
 pub mod Split
 pub mod Scaled
-pub mod Kept

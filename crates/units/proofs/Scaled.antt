@@ -1,8 +1,7 @@
 -- The counts and limits of a board in units, place by place and after a write.
-use Rattle.std.proofs.Common.{◌≡◌, ℕ, ◌+◌, ◌*◌, ◌/◌, ◌%◌, ◌<◌, ◌≤◌, ◌≢◌, List, length, get_or, set, sym, ap, ◌∙◌, ⊎_elim, mul-le-mul_right, arith, length-set}
+use Rattle.std.proofs.Common.{◌≡◌, ℕ, ◌/◌, ◌%◌, ◌<◌, ◌≤◌, ◌≢◌, List, length, get_or, set, sym, ◌∙◌, mul-le-mul_right, arith, length-set}
 use Rattle.std.proofs.lemmas.List.{get_or_past, get_or-set_same, get_or-set_other}
 use Rattle.std.proofs.lemmas.List.FromFn.{length-map-range_with_len, get_or-map-range_with_len, fill_by_all}
-use Rattle.std.proofs.lemmas.Bool.{cases_eq}
 use Rattle.std.proofs.lemmas.Nat.{mod_below}
 use Rattle.net.specs.Net.{Net}
 use Rattle.units.specs.Units.{unit_at, count_at, counts_in_units, limit_at, limits_in_units}
@@ -47,37 +46,19 @@ module _ (n : Net) (limits counts rests : List ℕ) where
       (omega (arith, counts-long), fits_below m (unit_at n limits p) some (get_or limits p 0) (omega (arith, limits_in_units-at n limits p bounded)))
 
   -- setting place p to m: so many full units below, and the rest
-  pub counts-after : (p m : ℕ) → p < length counts → p < length rests → 0 < unit_at n limits p
-      → counts_in_units n limits (set counts p (m / unit_at n limits p)) (set rests p (m % unit_at n limits p)) ≡ set (counts_in_units n limits counts rests) p m
-  counts-after p m there kept some =
-      let unit = unit_at n limits p in
-      let full = m / unit in
-      let rest = m % unit in
-      let before = counts_in_units n limits counts rests in
-      let after = count_at n limits (set counts p full) (set rests p rest) in
-      let here : after p ≡ m =
-      ap (λ x. x * unit + get_or (set rests p rest) p 0 % unit) (get_or-set_same counts p full 0 there)
-      ∙ ap (λ x. full * unit + x % unit) (get_or-set_same rests p rest 0 kept)
-      ∙ split m unit some in
-      let elsewhere : (k : ℕ) → k ≢ p → after k ≡ count_at n limits counts rests k =
-      λ k ne. ap (λ x. x * unit_at n limits k + get_or (set rests p rest) k 0 % unit_at n limits k) (get_or-set_other counts p k full 0 ne)
-      ∙ ap (λ x. get_or counts k 0 * unit_at n limits k + x % unit_at n limits k) (get_or-set_other rests p k rest 0 ne) in
-      sym (fill_by_all after (set before p m) (length (set counts p full)) 0
-      (length-set before p m ∙ counts-long ∙ sym (length-set counts p full))
-      (λ k below. ⊎_elim
-      (λ same. ap (λ j. get_or (set before p m) j 0) same ∙ get_or-set_same before p m 0 (omega (arith, counts-long)) ∙ sym here ∙ ap after (sym same))
-      (λ ne. get_or-set_other before p k m 0 ne ∙ counts_in_units-at k (omega (arith, length-set counts p full)) ∙ sym (elsewhere k ne))
-      (cases_eq k p)))
+  module _ (p m : ℕ) (there : p < length counts) (kept : p < length rests) (some : 0 < unit_at n limits p) where
+    abbrev after : ℕ → ℕ
+    after = count_at n limits (set counts p (m / unit_at n limits p)) (set rests p (m % unit_at n limits p))
 
-  -- the same of what the board below answers
-  pub set-in-units : (p m unit : ℕ) → unit ≡ unit_at n limits p → 0 < unit → p < length counts → p < length rests
-      → (limits' counts' : List ℕ) → limits' ≡ limits → counts' ≡ set counts p (m / unit)
-      → counts_in_units n limits' counts' (set rests p (m % unit)) ≡ set (counts_in_units n limits counts rests) p m
-  set-in-units p m unit is some there kept limits' counts' same_limits written =
-      ap (λ ls. counts_in_units n ls counts' (set rests p (m % unit))) same_limits
-      ∙ ap (λ cs. counts_in_units n limits cs (set rests p (m % unit))) written
-      ∙ ap (λ u. counts_in_units n limits (set counts p (m / u)) (set rests p (m % u))) is
-      ∙ counts-after p m there kept (omega arith)
+    after-here : after p ≡ m
+    after-here = let whole = split m (unit_at n limits p) some in grind (arith, get_or-set_same)
 
-  pub same-in-units : (limits' counts' : List ℕ) → limits' ≡ limits → counts' ≡ counts → counts_in_units n limits' counts' rests ≡ counts_in_units n limits counts rests
-  same-in-units limits' counts' same_limits same_counts = ap (λ ls. counts_in_units n ls counts' rests) same_limits ∙ ap (λ cs. counts_in_units n limits cs rests) same_counts
+    after-elsewhere : (k : ℕ) → k ≢ p → after k ≡ count_at n limits counts rests k
+    after-elsewhere k ne = grind (arith, get_or-set_other)
+
+    after-each : (k : ℕ) → k < length (set counts p (m / unit_at n limits p)) → get_or (set (counts_in_units n limits counts rests) p m) k 0 ≡ after k
+    after-each k below = grind (arith, get_or-set_same, get_or-set_other, length-set, counts-long, counts_in_units-at k, after-here, after-elsewhere k)
+
+    pub counts-after : counts_in_units n limits (set counts p (m / unit_at n limits p)) (set rests p (m % unit_at n limits p)) ≡ set (counts_in_units n limits counts rests) p m
+    counts-after = sym (fill_by_all after (set (counts_in_units n limits counts rests) p m) (length (set counts p (m / unit_at n limits p))) 0
+        (length-set (counts_in_units n limits counts rests) p m ∙ counts-long ∙ sym (length-set counts p (m / unit_at n limits p))) after-each)

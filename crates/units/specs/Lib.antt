@@ -1,5 +1,4 @@
 pub mod Units
-pub mod Few
 pub mod Parts
 pub mod Scales
 pub mod Frames

@@ -1,8 +1,8 @@
 -- The unit at a place of a board in units, and what the board below says there.
-use Rattle.std.specs.Prelude.{◌≡◌, ℕ, ◌+◌, ◌*◌, ◌<◌, ◌≤◌, List, length, Some, None, Option, slice_index}
+use Rattle.std.specs.Prelude.{◌≡◌, ℕ, ◌<◌, ◌≤◌, List, length, Some, None, Option, slice_index}
 use Rattle.net.specs.Net.{Net}
 use Rattle.units.specs.Units.{unit_at}
-use Rattle.units.specs.declared.units_board.Scale.{Scale}
+use Rattle.units.specs.declared.scale.Scale.{Scale}
 
 pub record Scaled (n : Net) (limits counts : List ℕ) (p : ℕ) (scale : Scale) : Type 0 where
   pub there : p < length limits
@@ -10,8 +10,6 @@ pub record Scaled (n : Net) (limits counts : List ℕ) (p : ℕ) (scale : Scale)
   pub limit : scale.limit ≡ slice_index limits p
   pub enough : slice_index counts p ≤ scale.limit
   pub unit : scale.unit ≡ unit_at n limits p
-  pub positive : 0 < scale.unit
-  pub fits : (scale.limit + 1) * scale.unit ≤ 4294967296
 
 abbrev pub ScaledAt : Net → List ℕ → List ℕ → ℕ → Option Scale → Type 0
 ScaledAt n limits counts p None = (length limits ≤ p) × (length limits ≡ length counts)

@@ -2,6 +2,7 @@
 #![tactic(auto)]
 
 mod parts;
+mod scale;
 mod units_board;
 
 pub use parts::InUnits;

@@ -1,19 +1,17 @@
 // A board in units of a plan.
-ghost use Rattle.std.specs.Prelude.{◌≡◌, ◌+◌, ◌*◌, ◌<◌, ◌≤◌, replicate};
+ghost use Rattle.std.specs.Prelude.{◌≡◌, length, replicate};
 ghost use Rattle.net.specs.Model.{net};
-ghost use Rattle.net.specs.Divisors.{unit_of};
-ghost use Rattle.units.specs.Units.{unit_over_limit, counts_in_units, limits_in_units};
+ghost use Rattle.units.specs.Units.{count_at, counts_in_units, limits_in_units};
 ghost use Rattle.units.specs.Frames.{UnitsFrame};
-ghost use Rattle.units.specs.Few.{units-few};
+ghost use Rattle.std.proofs.Common.{arith};
+ghost use Rattle.std.proofs.lemmas.List.FromFn.{length-map-range_with_len};
 ghost use Rattle.units.specs.Parts.{PartsAt};
 ghost use Rattle.units.specs.Scales.{ScaledAt};
 
 use crate::parts::InUnits;
+use crate::scale::Scale;
 use board::{Board, NotSet, ReadBoard};
 use net::Plan;
-
-// How many counts there are: 0 to 4,294,967,295.
-const COUNTS: u64 = 4294967296;
 
 // A board that counts full units on the board below, and keeps the rests itself. A rest counts modulo the unit, so it is less than a unit.
 #[derive(Drop)]
@@ -21,33 +19,6 @@ pub struct UnitsBoard<'p, 'b, B> {
     plan: &'p Plan,
     below: &'b mut B,
     rests: [u32; 16],
-}
-
-// The unit at a place, and the limit that the board below has there.
-#[derive(Clone, Copy)]
-pub(crate) struct Scale {
-    pub(crate) unit: u32,
-    pub(crate) limit: u32,
-}
-
-// The plan's unit at a place where the board below has this limit, or 1 where counts would pass 32 bits.
-fn unit_over(plan: &Plan, p: u32, limit: u32) -> u32
-    ensures value { result ≡ unit_over_limit limit (unit_of (net plan.now) p) }
-    ensures range { (0 < result) × ((limit + 1) * result ≤ 4294967296) }
-{
-    let unit = plan.unit(p);
-    if (u64::from(limit) + 1) * u64::from(unit) <= COUNTS {
-        unit
-    } else {
-        1
-    }
-}
-
-// So many full units and a rest, as one number.
-fn whole(full: u32, unit: u32, rest: u32) -> u64
-    ensures { result ≡ full * unit + rest }
-{
-    u64::from(full) * u64::from(unit) + u64::from(rest)
 }
 
 impl<'p, 'b, B: Board> UnitsBoard<'p, 'b, B> {
@@ -83,26 +54,23 @@ impl<'p, 'b, B: Board> UnitsBoard<'p, 'b, B> {
         ensures { ScaledAt (net self.now.plan.now) (B.Board.limits self.now.below.now) (B.ReadBoard.counts self.now.below.now) p result }
     {
         let limit = self.below.limit(p)?;
-        Some(Scale {
-            unit: unit_over(self.plan, p, limit),
-            limit,
-        })
+        Some(Scale::over(self.plan, p, limit))
     }
 }
 
 impl<'p, 'b, B: Board> ReadBoard for UnitsBoard<'p, 'b, B> {
     ghost counts = { λ s. counts_in_units (net s.plan.now) (B.Board.limits s.below.now) (B.ReadBoard.counts s.below.now) s.rests };
 
-    ghost few = { λ s. units-few (net s.plan.now) (B.Board.limits s.below.now) (B.ReadBoard.counts s.below.now) s.rests (B.ReadBoard.few s.below.now) };
-
     fn places(&self) -> u32 {
         self.below.places()
     }
 
     fn count(&self, p: u32) -> Option<u32> {
-        let InUnits { unit, full, loose } = self.in_units(p)?;
-        Some(whole(full, unit, loose) as u32)
+        let parts = self.in_units(p)?;
+        Some(parts.whole())
     }
+
+    ghost few = { λ s. Prim.grind (arith, length-map-range_with_len, B.ReadBoard.few s.below.now) };
 }
 
 impl<'p, 'b, B: Board> Board for UnitsBoard<'p, 'b, B> {
@@ -113,14 +81,17 @@ impl<'p, 'b, B: Board> Board for UnitsBoard<'p, 'b, B> {
     ghost kept = { λ s. record { plan = net s.plan.now; board = s.below.ghost_name; limits = B.Board.limits s.below.now; below = B.Board.kept s.below.now } };
 
     fn limit(&self, p: u32) -> Option<u32> {
-        let scale = self.scale(p)?;
-        Some(whole(scale.limit, scale.unit, scale.unit - 1) as u32)
+        let Scale { unit, limit } = self.scale(p)?;
+        let most = InUnits {
+            unit,
+            full: limit,
+            loose: unit - 1,
+        };
+        Some(most.whole())
     }
 
     fn set(&mut self, p: u32, n: u32) -> Result<(), NotSet> {
-        let Some(scale) = self.scale(p) else {
-            return Err(NotSet);
-        };
+        let scale = self.scale(p).ok_or(NotSet)?;
         self.below.set(p, n / scale.unit)?;
         self.rests[p as usize] = n % scale.unit;
         Ok(())

@@ -3,4 +3,4 @@ use Rattle.board.proofs.OnBytes.{counts-long}
 use Rattle.board.proofs.bytes.ByteBoardReadBoard.places.Goals as goal
 
 pub returns : goal.returns
-returns c = omega (arith, c.min.ensures, counts-long c.args.self.now.bytes.now)
+returns c = omega (arith, counts-long c.args.self.now.bytes.now)

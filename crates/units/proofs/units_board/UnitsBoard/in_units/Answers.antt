@@ -1,7 +1,7 @@
-use Rattle.std.proofs.Common.{◌≡◌, ◌+◌, ◌*◌, ◌%◌, get_or, sym, ap, ◌∙◌, arith}
+use Rattle.std.proofs.Common.{◌≡◌, ◌+◌, ◌*◌, ◌%◌, get_or, sym, ◌∙◌, arith}
 use Rattle.std.proofs.lemmas.Nat.{mod_below}
 use Rattle.net.specs.Model.{net}
-use Rattle.units.specs.Units.{unit_at, count_at}
+use Rattle.units.specs.Units.{unit_at, counts_in_units}
 use Rattle.units.proofs.Over.{beyond-single}
 use Rattle.units.proofs.Split.{whole-small}
 use Rattle.units.proofs.Scaled.{counts_in_units-at}
@@ -21,23 +21,16 @@ returns g c =
     let scaled = c.in_ok-scale.ensures in
     let here = c.in_ok-full.ensures in
     let count = counts_in_units-at n limits counts self.rests p here.0 in
-    let less = mod_below rest scale.unit scaled.positive in
-    let whole : full * unit + rest % scale.unit ≡ count_at n limits counts self.rests p =
-    ap (λ u. full * unit + rest % u) scaled.unit ∙ ap (λ k. k * unit + rest % unit) here.1 in
+    let less = mod_below rest scale.unit scale.positive in
+    let whole : full * scale.unit + rest % scale.unit ≡ get_or (counts_in_units n limits counts self.rests) p 0 = rw (scaled.unit, here.1) (sym count) in
     record {
       there = here.0;
       split = record {
         same = scaled.unit;
-        whole = whole ∙ sym count;
+        whole = rw (← scaled.unit) whole;
         rest = omega (arith, less, scaled.unit);
       };
       full = here.1;
       single = λ beyond. scaled.unit ∙ beyond-single self.plan.now limits p beyond;
-      small = omega (
-        arith,
-        whole-small full (rest % scale.unit) scale.unit scale.limit (omega (arith, here.1, scaled.enough)) less scaled.fits,
-        ap (λ u. full * u) scaled.unit,
-        whole,
-        count,
-      );
+      small = rw (← whole) (whole-small full (rest % scale.unit) scale.unit scale.limit (omega (arith, here.1, scaled.enough)) less scale.fits);
     }
