@@ -12,8 +12,5 @@ pub fn three_moves() -> Plan
     ensures plan { Same (net result) net_of_three_moves }
     ensures table { WorkedExamples }
 {
-    match Plan::new(2, 3, &[4, 0, 6, 0, 0, 1], &[0, 2, 0, 3, 2, 0]) {
-        Some(plan) => plan,
-        None => unreachable(),
-    }
+    Plan::new(2, 3, &[4, 0, 6, 0, 0, 1], &[0, 2, 0, 3, 2, 0]).unwrap()
 }

@@ -2,6 +2,7 @@
 #![tactic(auto)]
 
 mod describing;
+mod filed;
 mod records;
 mod stock;
 

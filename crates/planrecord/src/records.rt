@@ -1,10 +1,10 @@
 use clause::Certificate;
 use net::{Counts, Plan};
 use units::InUnits;
-use weigh::Balance;
+use weigh::Imbalance;
 
 // A place with its filed count, its unit, and its least and largest take where it has a taker.
-#[derive(Clone, Copy)]
+#[derive(Clone, Copy, Debug, PartialEq, Eq)]
 pub struct PlaceRecord {
     pub count: u32,
     pub unit: u32,
@@ -13,21 +13,21 @@ pub struct PlaceRecord {
 }
 
 // What a place may hold in stock, and the parts of its filed count there, absent where that is more.
-#[derive(Clone, Copy)]
+#[derive(Clone, Copy, Debug, PartialEq, Eq)]
 pub struct StockRecord {
     pub limit: u32,
     pub parts: Option<InUnits>,
 }
 
 // Whether a certificate's weighing balances the plan, and what the filed counts weigh.
-#[derive(Clone, Copy)]
+#[derive(Clone, Copy, Debug, PartialEq, Eq)]
 pub struct WeighingRecord {
-    pub balance: Balance,
+    pub balance: Result<(), Imbalance>,
     pub sum: u64,
 }
 
 // A certificate, with the record of its weighing where its kind has one.
-#[derive(Clone, Copy)]
+#[derive(Clone, Copy, Debug, PartialEq, Eq)]
 pub struct CertificateRecord {
     pub certificate: Certificate,
     pub weighing: Option<WeighingRecord>,

@@ -4,9 +4,11 @@ ghost use Rattle.net.specs.Model.{net};
 ghost use Rattle.net.specs.Marking.{marking};
 ghost use Rattle.planrecord.specs.Stock.{DescribesStock};
 
+use crate::filed::Filed;
 use crate::records::StockRecord;
 use board::{Board, ByteBoard};
-use net::{Counts, MOST_PLACES, Plan};
+use net::Counts;
+use std::array;
 use units::UnitsBoard;
 
 // Books a count at a place of a board that is made for this and let go afterwards.
@@ -27,22 +29,17 @@ fn stock_record<B: Board>(board: &mut UnitsBoard<'_, '_, B>, p: u32, count: u32)
 fn book_all<B: Board>(board: &mut UnitsBoard<'_, '_, B>, counts: &Counts) -> [StockRecord; 16]
     ensures { (p : ℕ) (other : StockRecord) → p < 16 → DescribesStock (net board.old.plan.now) (B.Board.limits board.old.below.now) p (slice_index (marking counts.now) p) (slice_index_or result p other) }
 {
-    let mut stock = [StockRecord {
-        limit: 0,
-        parts: None,
-    }; 16];
-    for p in 0..MOST_PLACES {
-        stock[p as usize] = stock_record(board, p, counts.held(p));
-    }
-    stock
+    array::from_fn(|p| stock_record(board, p as u32, counts.held(p as u32)))
 }
 
-// The stock of each of 16 places.
-pub(crate) fn stock_records(plan: &Plan, counts: &Counts) -> [StockRecord; 16]
-    ensures { (p : ℕ) (other : StockRecord) → p < 16 → DescribesStock (net plan.now) (replicate 16 65535) p (slice_index (marking counts.now) p) (slice_index_or result p other) }
-{
-    let mut bytes = [0u8; 32];
-    let mut low = ByteBoard::new(&mut bytes);
-    let mut board = UnitsBoard::new(plan, &mut low);
-    book_all(&mut board, counts)
+impl Filed<'_> {
+    // The stock of each of 16 places.
+    pub(crate) fn stock(&self) -> [StockRecord; 16]
+        ensures { (p : ℕ) (other : StockRecord) → p < 16 → DescribesStock (net self.now.plan.now) (replicate 16 65535) p (slice_index (marking self.now.counts.now) p) (slice_index_or result p other) }
+    {
+        let mut bytes = [0u8; 32];
+        let mut low = ByteBoard::new(&mut bytes);
+        let mut board = UnitsBoard::new(self.plan, &mut low);
+        book_all(&mut board, self.counts)
+    }
 }

@@ -1,51 +1,54 @@
 // Shows plan sheets: planshow [dot] [FILE ..], plan.sheet where no file is named.
 #![tactic(auto)]
 
+use planrecord::PlanRecord;
 use plantext::{Dot, Text};
 use std::io::ErrorKind;
 use std::{env, fs, io};
 
-// The bytes of a file; an absent file is an empty sheet.
-fn sheet_bytes(rt: &HostRuntime, path: &str) -> io::Result<Vec<u8>> {
-    match fs::read(rt, path) {
-        Ok(bytes) => Ok(bytes),
-        Err(e) => {
-            if e.kind() == ErrorKind::NotFound {
-                Ok(Vec::new(rt.alloc()))
-            } else {
-                Err(e)
-            }
+// What a record is shown as.
+#[derive(Clone, Copy)]
+enum Form {
+    Text,
+    Dot,
+}
+
+impl Form {
+    fn print(self, rt: &HostRuntime, record: &PlanRecord) -> io::Result<()> {
+        match self {
+            Form::Text => print!(rt; "{}", Text(record)),
+            Form::Dot => print!(rt; "{}", Dot(record)),
         }
     }
 }
 
-fn show(rt: &HostRuntime, as_dot: bool, path: &str) -> io::Result<()> {
+// The bytes of a file; an absent file is an empty sheet.
+fn sheet_bytes(rt: &HostRuntime, path: &str) -> io::Result<Vec<u8>> {
+    match fs::read(rt, path) {
+        Err(e) if e.kind() == ErrorKind::NotFound => Ok(Vec::new(rt.alloc())),
+        read => read,
+    }
+}
+
+fn show(rt: &HostRuntime, form: Form, path: &str) -> io::Result<()> {
     let bytes = sheet_bytes(rt, path)?;
     match planrecord::describe(bytes.as_slice()) {
-        Ok(record) => {
-            if as_dot {
-                print!(rt; "{}", Dot(&record))
-            } else {
-                print!(rt; "{}", Text(&record))
-            }
-        }
+        Ok(record) => form.print(rt, &record),
         Err(refusal) => println!(rt; "{refusal}"),
     }
 }
 
 fn run(rt: &HostRuntime) -> anyhow::Result<()> {
-    let mut as_dot = false;
-    let mut shown = false;
-    for (i, word) in env::args(rt)?.skip(1).enumerate() {
-        if i == 0 && word.as_str() == "dot" {
-            as_dot = true;
-        } else {
-            show(rt, as_dot, word.as_str())?;
-            shown = true;
-        }
+    let mut words = env::args(rt)?.skip(1).peekable();
+    let form = match words.next_if(|word| word.as_str() == "dot") {
+        Some(_) => Form::Dot,
+        None => Form::Text,
+    };
+    if words.peek().is_none() {
+        show(rt, form, "plan.sheet")?;
     }
-    if !shown {
-        show(rt, as_dot, "plan.sheet")?;
+    for path in words {
+        show(rt, form, path.as_str())?;
     }
     Ok(())
 }

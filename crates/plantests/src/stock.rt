@@ -2,21 +2,14 @@ use crate::sheets::{PAST_TWO_BYTES, THREE_MOVES, TWENTY_FOUR, TWO_MOVES, UNITS_O
 use plantext::Stock;
 use std::test::Fail;
 
-// The limit of place p in stock, and the full units and loose rest of its count.
+// The limit of place p in stock, and the unit, the full units and the loose rest of its count.
 fn booking(bytes: &[u8], p: usize) -> Option<(u32, Option<(u32, u32, u32)>)> {
-    match planrecord::describe(bytes) {
-        Ok(record) => {
-            if p >= 16 {
-                return None;
-            }
-            let stock = record.stock[p];
-            match stock.parts {
-                Some(parts) => Some((stock.limit, Some((parts.unit, parts.full, parts.loose)))),
-                None => Some((stock.limit, None)),
-            }
-        }
-        Err(_) => None,
-    }
+    let record = planrecord::describe(bytes).ok()?;
+    let stock = record.stock.get(p)?;
+    let parts = stock
+        .parts
+        .map(|parts| (parts.unit, parts.full, parts.loose));
+    Some((stock.limit, parts))
 }
 
 #[test]
@@ -35,10 +28,8 @@ fn at_the_limit_and_one_past_it(rt: HostRuntime) {
 }
 
 fn shown(rt: &HostRuntime, bytes: &[u8]) -> Result<String, Fail> {
-    match planrecord::describe(bytes) {
-        Ok(record) => Ok(format!(in rt.alloc(); "{}", Stock(&record))?),
-        Err(_) => Err(Fail::new("refused")),
-    }
+    let record = planrecord::describe(bytes)?;
+    Ok(format!(in rt.alloc(); "{}", Stock(&record))?)
 }
 
 #[test]

@@ -23,8 +23,8 @@ impl fmt::Display for Dot<'_> {
     fn fmt<W: fmt::Write>(&self, f: &mut fmt::Formatter<W>) -> fmt::Result {
         let shown = self.0;
         writeln!(f, "digraph plan {{")?;
-        for p in 0..shown.plan.places() {
-            let count = shown.places[p as usize].count;
+        for (p, place) in (0..shown.plan.places()).zip(&shown.places) {
+            let count = place.count;
             writeln!(f, "    p{p} [shape=circle, label=\"place {p}\\n{count}\"];")?;
         }
         for t in 0..shown.plan.moves() {

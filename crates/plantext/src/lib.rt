@@ -2,6 +2,7 @@
 #![tactic(auto)]
 
 mod dot;
+mod list;
 mod stock;
 mod text;
 

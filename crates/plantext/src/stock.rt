@@ -1,6 +1,8 @@
 // The stock of a record as text for a person.
+use crate::list::write_list;
 use planrecord::{PlanRecord, StockRecord};
 use std::fmt;
+use units::InUnits;
 
 #[derive(Clone, Copy)]
 pub struct Stock<'a>(pub &'a PlanRecord);
@@ -12,15 +14,10 @@ fn write_booking<W: fmt::Write>(
 ) -> fmt::Result {
     let limit = stock.limit;
     match stock.parts {
-        Some(parts) => {
-            let full = parts.full;
-            let unit = parts.unit;
-            let loose = parts.loose;
-            writeln!(
-                f,
-                "  place {p}: {full} full units of {unit}, {loose} loose, limit {limit}"
-            )
-        }
+        Some(InUnits { unit, full, loose }) => writeln!(
+            f,
+            "  place {p}: {full} full units of {unit}, {loose} loose, limit {limit}"
+        ),
         None => writeln!(f, "  place {p}: not booked, limit {limit}"),
     }
 }
@@ -28,27 +25,19 @@ fn write_booking<W: fmt::Write>(
 impl Stock<'_> {
     fn write_stock<W: fmt::Write>(&self, f: &mut fmt::Formatter<W>) -> fmt::Result {
         writeln!(f, "stock, two bytes a place:")?;
-        for p in 0..self.0.plan.places() {
-            write_booking(f, p, &self.0.stock[p as usize])?;
+        for (p, stock) in (0..self.0.plan.places()).zip(&self.0.stock) {
+            write_booking(f, p, stock)?;
         }
         Ok(())
     }
 
     fn write_not_booked<W: fmt::Write>(&self, f: &mut fmt::Formatter<W>) -> fmt::Result {
-        let mut any = false;
+        let places = (0..self.0.plan.places())
+            .zip(&self.0.stock)
+            .filter(|(_, stock)| stock.parts.is_none());
         write!(f, "  not booked:")?;
-        for p in 0..self.0.plan.places() {
-            if self.0.stock[p as usize].parts.is_none() {
-                let mark = if any { ", " } else { " " };
-                write!(f, "{mark}place {p}")?;
-                any = true;
-            }
-        }
-        if any {
-            writeln!(f)
-        } else {
-            writeln!(f, " none")
-        }
+        write_list(f, places, ",", "none", |f, (p, _)| write!(f, "place {p}"))?;
+        writeln!(f)
     }
 }
 

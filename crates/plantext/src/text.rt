@@ -1,8 +1,9 @@
 // A record as text for a person.
+use crate::list::write_list;
 use clause::{Certificate, PlaceSet};
 use planrecord::{CertificateRecord, PlaceRecord, PlanRecord, WeighingRecord};
 use std::fmt;
-use weigh::{Balance, Weighing};
+use weigh::Weighing;
 
 #[derive(Clone, Copy)]
 pub struct Text<'a>(pub &'a PlanRecord);
@@ -12,10 +13,14 @@ fn write_place<W: fmt::Write>(
     p: u32,
     place: &PlaceRecord,
 ) -> fmt::Result {
-    let count = place.count;
-    let unit = place.unit;
+    let PlaceRecord {
+        count,
+        unit,
+        least,
+        largest,
+    } = place;
     write!(f, "place {p}: count {count}, unit {unit}, ")?;
-    match (place.least, place.largest) {
+    match (least, largest) {
         (Some(least), Some(largest)) => writeln!(f, "least take {least}, largest take {largest}"),
         _ => writeln!(f, "no taker"),
     }
@@ -23,59 +28,44 @@ fn write_place<W: fmt::Write>(
 
 // The places of a row that are not 0.
 fn write_row<W: fmt::Write>(f: &mut fmt::Formatter<W>, row: &[u16]) -> fmt::Result {
-    let mut any = false;
-    for (p, n) in row.iter().enumerate() {
-        if *n != 0 {
-            let mark = if any { ", " } else { " " };
-            write!(f, "{mark}{n} at place {p}")?;
-            any = true;
-        }
-    }
-    if any { Ok(()) } else { write!(f, " nothing") }
+    let arcs = row.iter().enumerate().filter(|(_, n)| **n != 0);
+    write_list(
+        f,
+        arcs,
+        ",",
+        "nothing",
+        |f, (p, n)| write!(f, "{n} at place {p}"),
+    )
 }
 
 fn write_weights<W: fmt::Write>(f: &mut fmt::Formatter<W>, weighing: &Weighing) -> fmt::Result {
     write!(f, "  weights:")?;
-    for p in 0..weighing.places() {
-        if let Some(weight) = weighing.weight(p) {
-            write!(f, " {weight}")?;
-        }
+    for weight in weighing.weights() {
+        write!(f, " {weight}")?;
     }
     writeln!(f)
 }
 
 fn write_set<W: fmt::Write>(f: &mut fmt::Formatter<W>, set: &PlaceSet) -> fmt::Result {
-    let mut any = false;
+    let places = set
+        .members()
+        .iter()
+        .enumerate()
+        .filter(|(_, is_member)| **is_member);
     write!(f, "  places in the set:")?;
-    for p in 0..set.places() {
-        if set.contains(p) {
-            write!(f, " {p}")?;
-            any = true;
-        }
-    }
-    if any {
-        writeln!(f)
-    } else {
-        writeln!(f, " none")
-    }
+    write_list(f, places, "", "none", |f, (p, _)| write!(f, "{p}"))?;
+    writeln!(f)
 }
 
 fn write_weighing<W: fmt::Write>(
     f: &mut fmt::Formatter<W>,
     weighing: &WeighingRecord,
 ) -> fmt::Result {
-    match weighing.balance {
-        Balance::Even => writeln!(f, "  balances the plan: yes")?,
-        Balance::OtherPlaces => writeln!(
-            f,
-            "  balances the plan: no, it has another number of places"
-        )?,
-        Balance::Uneven(t) => writeln!(
-            f,
-            "  balances the plan: no, move {t} takes another weight than it gives"
-        )?,
+    let WeighingRecord { balance, sum } = weighing;
+    match balance {
+        Ok(()) => writeln!(f, "  balances the plan: yes")?,
+        Err(imbalance) => writeln!(f, "  balances the plan: no, {imbalance}")?,
     }
-    let sum = weighing.sum;
     writeln!(f, "  weighed sum: {sum}")
 }
 
@@ -84,30 +74,23 @@ fn write_certificate<W: fmt::Write>(
     slot: u32,
     shown: &CertificateRecord,
 ) -> fmt::Result {
-    write!(f, "certificate {slot}: ")?;
+    let kind = shown.certificate.kind();
+    writeln!(f, "certificate {slot}: {kind}")?;
     match &shown.certificate {
-        Certificate::Blank => writeln!(f, "blank\n  ceiling: none\n  numbers: none")?,
-        Certificate::Ceiling { weighing, ceiling } => {
-            writeln!(f, "ceiling\n  ceiling: {ceiling}")?;
+        Certificate::Ceiling { ceiling, .. } => writeln!(f, "  ceiling: {ceiling}")?,
+        _ => writeln!(f, "  ceiling: none")?,
+    }
+    match &shown.certificate {
+        Certificate::Blank => writeln!(f, "  numbers: none")?,
+        Certificate::Ceiling { weighing, .. } | Certificate::NeverStuck { weighing } => {
             write_weights(f, weighing)?;
         }
-        Certificate::NeverStuck { weighing } => {
-            writeln!(f, "never stuck\n  ceiling: none")?;
-            write_weights(f, weighing)?;
-        }
-        Certificate::DeadSet { set } => {
-            writeln!(f, "dead set\n  ceiling: none")?;
-            write_set(f, set)?;
-        }
-        Certificate::KeptSet { set } => {
-            writeln!(f, "kept set\n  ceiling: none")?;
-            write_set(f, set)?;
-        }
+        Certificate::DeadSet { set } | Certificate::KeptSet { set } => write_set(f, set)?,
     }
-    match &shown.weighing {
-        Some(weighing) => write_weighing(f, weighing),
-        None => Ok(()),
+    if let Some(weighing) = &shown.weighing {
+        write_weighing(f, weighing)?;
     }
+    Ok(())
 }
 
 impl Text<'_> {
@@ -136,10 +119,8 @@ impl Text<'_> {
         let fed = self.0.fed_moves;
         let moves = self.0.plan.moves();
         write!(f, "fed moves: {fed} of {moves}")?;
-        for t in 0..moves {
-            if self.shows_fed(t) {
-                write!(f, ", move {t}")?;
-            }
+        for t in (0..moves).filter(|t| self.shows_fed(*t)) {
+            write!(f, ", move {t}")?;
         }
         writeln!(f)
     }
@@ -150,8 +131,8 @@ impl fmt::Display for Text<'_> {
         let places = self.0.plan.places();
         let moves = self.0.plan.moves();
         writeln!(f, "plan: places {places}, moves {moves}")?;
-        for p in 0..places {
-            write_place(f, p, &self.0.places[p as usize])?;
+        for (p, place) in (0..places).zip(&self.0.places) {
+            write_place(f, p, place)?;
         }
         for t in 0..moves {
             self.write_move(f, t)?;

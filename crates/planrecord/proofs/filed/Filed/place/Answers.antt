@@ -1,5 +1,5 @@
 use Rattle.std.proofs.Common.{Some, None, Option, MatchOption}
-use Rattle.planrecord.proofs.describing.place_record.Goals as goal
+use Rattle.planrecord.proofs.filed.Filed.place.Goals as goal
 
 -- the second of two facts about what is there
 second-fact : {X : Type 0} (o : Option X) (P : Type 0) (Q R : X → Type 0) → MatchOption o P (λ x. Q x × R x) → MatchOption o P R
