@@ -4,8 +4,7 @@ ghost use Rattle.net.specs.Answers.{AnswersAt};
 ghost use Rattle.std.specs.Simd.{first_chunks};
 ghost use Rattle.board.specs.Bytes.{pairs_in, byte_counts, byte_limits, bytes_past};
 ghost use Rattle.board.specs.Frames.{LentFrame};
-ghost use Rattle.std.proofs.Common.{arith};
-ghost use Rattle.std.proofs.lemmas.List.FromFn.{length-map-range_with_len};
+ghost use Rattle.board.specs.Few.{bytes-few};
 
 use crate::meaning::{Board, NotSet, ReadBoard};
 use net::MOST_PLACES;
@@ -56,7 +55,7 @@ impl<'m> ReadBoard for ByteBoard<'m> {
         self.pair(p).map(u32::from)
     }
 
-    ghost few = { λ _. Prim.grind (arith, length-map-range_with_len) };
+    ghost few = { λ b. bytes-few b.bytes.now };
 }
 
 impl<'m> Board for ByteBoard<'m> {

@@ -1,6 +1,6 @@
 // The counts that are filed in a sheet, or copied from a board: they can be read, and nothing writes them.
 ghost use Rattle.net.specs.Marking.{marking};
-ghost use Rattle.std.proofs.Common.{arith, length-take};
+ghost use Rattle.board.specs.Few.{marking-few};
 
 use crate::meaning::ReadBoard;
 use net::Counts;
@@ -16,5 +16,5 @@ impl ReadBoard for Counts {
         Counts::count(self, p)
     }
 
-    ghost few = { λ counts. Prim.omega (arith, length-take counts.len counts.held, counts.few) };
+    ghost few = { marking-few };
 }

@@ -2,7 +2,7 @@
 ghost use Rattle.std.specs.Prelude.{◌≡◌};
 ghost use Rattle.board.specs.Numbers.{number_counts, number_limits, numbers_past};
 ghost use Rattle.board.specs.Frames.{LentFrame};
-ghost use Rattle.std.proofs.Common.{arith, length-take};
+ghost use Rattle.board.specs.Few.{numbers-few};
 
 use crate::meaning::{Board, NotSet, ReadBoard};
 use net::MOST_PLACES;
@@ -42,7 +42,7 @@ impl<'m> ReadBoard for NumberBoard<'m> {
         self.held().get(p as usize).copied()
     }
 
-    ghost few = { λ _. Prim.grind (arith, length-take) };
+    ghost few = { λ b. numbers-few b.numbers.now };
 }
 
 impl<'m> Board for NumberBoard<'m> {

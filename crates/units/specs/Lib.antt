@@ -1,4 +1,5 @@
 pub mod Units
+pub mod Few
 pub mod Parts
 pub mod Scales
 pub mod Frames

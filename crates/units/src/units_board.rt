@@ -1,10 +1,9 @@
 // A board in units of a plan.
 ghost use Rattle.std.specs.Prelude.{◌≡◌, length, replicate};
 ghost use Rattle.net.specs.Model.{net};
-ghost use Rattle.units.specs.Units.{count_at, counts_in_units, limits_in_units};
+ghost use Rattle.units.specs.Units.{counts_in_units, limits_in_units};
 ghost use Rattle.units.specs.Frames.{UnitsFrame};
-ghost use Rattle.std.proofs.Common.{arith};
-ghost use Rattle.std.proofs.lemmas.List.FromFn.{length-map-range_with_len};
+ghost use Rattle.units.specs.Few.{units-few};
 ghost use Rattle.units.specs.Parts.{PartsAt};
 ghost use Rattle.units.specs.Scales.{ScaledAt};
 
@@ -70,7 +69,7 @@ impl<'p, 'b, B: Board> ReadBoard for UnitsBoard<'p, 'b, B> {
         Some(parts.whole())
     }
 
-    ghost few = { λ s. Prim.grind (arith, length-map-range_with_len, B.ReadBoard.few s.below.now) };
+    ghost few = { λ s. units-few (net s.plan.now) (B.Board.limits s.below.now) (B.ReadBoard.counts s.below.now) s.rests (B.ReadBoard.few s.below.now) };
 }
 
 impl<'p, 'b, B: Board> Board for UnitsBoard<'p, 'b, B> {
