@@ -34,9 +34,7 @@ module _ (n : Net) (limits before counts rests : List ℕ) (p count : ℕ) (pair
       → PartsAt n' limits' counts rests p parts
       → BooksAs n limits p count parts
   booked n' limits' parts same_plan same_limits may written here =
-      accepted parts may
-      (subst (λ ls. counts_in_units n ls counts rests ≡ set before p count) same_limits (subst (λ m. counts_in_units m limits' counts rests ≡ set before p count) same_plan written))
-      (subst (λ ls. PartsAt n ls counts rests p parts) same_limits (subst (λ m. PartsAt m limits' counts rests p parts) same_plan here))
+      accepted parts may (rw (same_plan, same_limits) at written) (rw (same_plan, same_limits) at here)
 
   -- a count that was refused is past the limit, where there is such a place
   pub refused : (MayHold before (limits_in_units n limits) p count → ⊥) → BooksAs n limits p count None

@@ -1,5 +1,5 @@
 // Whether a weighing balances a plan.
-ghost use Rattle.std.specs.Prelude.{◌≡◌, ◌↔◌, length, IsTrue, MatchBool, EachIndex, slice_index};
+ghost use Rattle.std.specs.Prelude.{◌≡◌, ◌↔◌, length, IsTrue, EachIndex, slice_index};
 ghost use Rattle.net.specs.Model.{net};
 ghost use Rattle.weigh.specs.Weights.{weights_of};
 ghost use Rattle.weigh.specs.Sums.{weighed};
@@ -29,7 +29,7 @@ impl Weighing {
     // Whether move t is not idle and takes another weight than it gives. The sums of an idle move are not formed.
     fn is_uneven(&self, plan: &Plan, t: u32) -> bool
         requires { self.now.len ≡ (net plan.now).places }
-        ensures { MatchBool result (IsUneven (net plan.now) (weights_of self.now) t) (IsUneven (net plan.now) (weights_of self.now) t → ⊥) }
+        ensures { IsTrue result ↔ IsUneven (net plan.now) (weights_of self.now) t }
     {
         let (Some(takes), Some(gives)) = (plan.takes_of(t), plan.gives_of(t)) else {
             return false;

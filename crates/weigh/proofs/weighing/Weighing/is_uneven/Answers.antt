@@ -1,5 +1,5 @@
-use Rattle.std.proofs.Common.{◌≡◌, ℕ, ◌*◌, ◌<◌, not, eqb, List, length, get_or, MatchBool, sym, ap, ◌∙◌, ⊎_elim, arith}
-use Rattle.std.proofs.lemmas.Bool.{cases_eq, eq-eqb, ne_eqb}
+use Rattle.std.proofs.Common.{◌≡◌, ℕ, ◌*◌, ◌<◌, not, eqb, List, length, get_or, IsTrue, ◌↔◌, refl, sym, ap, ◌∙◌, ⊎_elim, arith}
+use Rattle.std.proofs.lemmas.Bool.{false≢true, cases_eq, eq-eqb, ne_eqb}
 use Rattle.net.specs.Net.{Net}
 use Rattle.net.specs.Sums.{sum_below}
 use Rattle.net.specs.Model.{net, IsRow}
@@ -17,11 +17,11 @@ module _ (n : Net) (ws : List ℕ) (long : length ws ≡ n.places) (t : ℕ) whe
   row-weight arc row is = sum_below-same (length ws) _ _ (λ p below. ap (λ x. get_or ws p 0 * x) (is.1 p (omega arith)))
 
   -- whether the two weights differ says whether the move tips
-  differ-tips : (a b : ℕ) → t < n.moves → a ≡ taken_weight n ws t → b ≡ given_weight n ws t → MatchBool (not (eqb a b)) (IsUneven n ws t) (IsUneven n ws t → ⊥)
+  differ-tips : (a b : ℕ) → t < n.moves → a ≡ taken_weight n ws t → b ≡ given_weight n ws t → IsTrue (not (eqb a b)) ↔ IsUneven n ws t
   differ-tips a b below taken given =
       ⊎_elim
-      (λ same. rw (eq-eqb a b same) (λ tips. tips.2 (sym taken ∙ same ∙ given)))
-      (λ differ. rw (ne_eqb a b differ) (below, (λ idle. differ (taken ∙ idle-even n ws long t idle ∙ sym given)), λ same. differ (taken ∙ same ∙ sym given)))
+      (λ same. rw (eq-eqb a b same) ((λ no. absurd (false≢true no)), λ tips. absurd (tips.2 (sym taken ∙ same ∙ given))))
+      (λ differ. rw (ne_eqb a b differ) ((λ yes. (below, (λ idle. differ (taken ∙ idle-even n ws long t idle ∙ sym given)), λ same. differ (taken ∙ same ∙ sym given))), λ tips. refl))
       (cases_eq a b)
 
 pub returns : goal.returns
