@@ -1,6 +1,7 @@
-use Rattle.std.proofs.Common.{◌≡◌, ◌<◌, Some, None, refl, ap, arith}
+use Rattle.std.proofs.Common.{◌≡◌, ◌<◌, Some, None, refl, ap, arith, ◌/◌, sym, subst}
 use Rattle.std.proofs.lemmas.Result.{err_from_is_err_and}
 use Rattle.net.specs.Model.{net}
+use Rattle.board.specs.Answers.{MayHold}
 use Rattle.units.specs.Units.{unit_at, limits_in_units}
 use Rattle.units.proofs.Scaled.{counts-long, may-hold, may-below, counts-after}
 use Rattle.units.proofs.units_board.UnitsBoardBoard.set.Goals as goal
@@ -34,7 +35,7 @@ returns-in_err-set g c =
     let err = err_from_is_err_and c.from_residual-in_err-set.result c.from_residual-in_err-set.ensures.1 in
     record {
       counts = rw err.1 (
-        λ may. refused.counts.0 (rw scaled.unit (may-below n limits counts self.rests p m (omega (arith, scaled.unit, scale.positive)) scaled.there may)),
+        λ may. refused.counts.0 (subst (λ u. MayHold counts limits p (m / u)) (sym scaled.unit) (may-below n limits counts self.rests p m (omega (arith, scaled.unit, scale.positive)) scaled.there may)),
         rw (refused.limits, refused.counts.1) refl,
       );
       limits = ap (limits_in_units n) refused.limits;
@@ -59,7 +60,7 @@ returns g c =
     let some_unit : 0 < unit_at n limits p = omega (arith, scaled.unit, scale.positive) in
     record {
       counts = (
-        may-hold n limits counts self.rests p m some_unit scaled.there (rw scaled.unit at accepted.counts.0),
+        may-hold n limits counts self.rests p m some_unit scaled.there (subst (λ u. MayHold counts limits p (m / u)) scaled.unit accepted.counts.0),
         rw (accepted.limits, accepted.counts.1, scaled.unit) (counts-after n limits counts self.rests p m (omega (arith, scaled.there, scaled.paired)) (omega (arith, scaled.there, scaled.paired)) some_unit),
       );
       limits = ap (limits_in_units n) accepted.limits;

@@ -1,4 +1,4 @@
-use Rattle.std.proofs.Common.{◌∙◌, arith}
+use Rattle.std.proofs.Common.{◌*◌, ap, ◌∙◌, arith}
 use Rattle.net.specs.Model.{net}
 use Rattle.units.proofs.Scaled.{counts-long}
 use Rattle.units.proofs.units_board.UnitsBoardReadBoard.count.Goals as goal
@@ -13,7 +13,7 @@ returns-in_err-parts g c =
 pub whole-requires : goal.whole-requires
 whole-requires g c =
     let parts = c.in_ok-parts.ensures in
-    rw (parts.split.same, parts.split.whole) parts.small
+    omega (arith, ap (λ u. c.in_ok-parts.parts.full * u) parts.split.same, parts.split.whole, parts.small)
 
 pub returns : goal.returns
 returns g c =
