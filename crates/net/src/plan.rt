@@ -15,7 +15,7 @@ pub const MOST_MOVES: u32 = 32;
 pub const MOST_ARC_WEIGHT: u16 = 1000;
 
 // A plan (a weighted Petri net). `takes` and `gives` lie move by move and place by place; what is past the last move is 0.
-#[derive(Drop)]
+#[derive(Debug, Drop, PartialEq, Eq)]
 pub struct Plan {
     places: u32,
     moves: u32,

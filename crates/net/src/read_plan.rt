@@ -6,7 +6,7 @@ ghost use Rattle.net.specs.ReadPlans.{read_places, read_moves, Remembers};
 use crate::plan::Plan;
 
 // It is moved from state to state, so it is neither `Clone` nor `Copy`; it may be let go.
-#[derive(Drop)]
+#[derive(Debug, Drop)]
 pub struct ReadPlan {
     places: u32,
     moves: u32,

@@ -90,11 +90,7 @@ impl Plan {
     fn row<'a>(&self, arcs: &'a [u16; 512], t: u32) -> Option<&'a [u16]>
         ensures { MatchOption result ((net self.now).moves ≤ t) (λ row. (t < (net self.now).moves) × IsRow (net self.now) (cell_at (net self.now).places arcs.now) t row.now) }
     {
-        if t < self.moves {
-            Some(row_of(arcs, self.places, t))
-        } else {
-            None
-        }
+        (t < self.moves).then(|| row_of(arcs, self.places, t))
     }
 
     // What move t takes at each place, absent where the plan has no such move.
