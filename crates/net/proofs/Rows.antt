@@ -1,5 +1,5 @@
 -- Rows of numbers that lie one after the other.
-use Rattle.std.proofs.Common.{◌≡◌, ℕ, ◌+◌, ◌-◌, ◌*◌, ◌<◌, ◌≤◌, cond, ltb, List, ◌++◌, drop, length, get_or, replicate, sym, refl, ap, ◌∙◌, ⊎_elim, mul-le-mul_right, add-mul, mul-le-mul, one-mul, arith}
+use Rattle.std.proofs.Common.{◌≡◌, ℕ, ◌+◌, ◌-◌, ◌*◌, ◌<◌, ◌≤◌, cond, ltb, List, ◌++◌, drop, length, get_or, replicate, sym, refl, ap, ◌∙◌, ⊎_elim, mul-le-mul_right, add-mul, one-mul, arith}
 use lib.ListN.{length-replicate}
 use Rattle.std.proofs.lemmas.List.{get_or_past, get_or-replicate, get_or_append_left, get_or-append_right, get_or-drop}
 use Rattle.std.proofs.lemmas.Bool.{cases_lt, lt-ltb, le-ltb, cond-true, cond-false}
@@ -33,10 +33,6 @@ row_within t width height h =
     let o : 1 * width ≡ width = one-mul width in
     omega arith
 
--- a plan has at most 512 arcs each way
-pub arcs-within : (width height : ℕ) → width ≤ 16 → height ≤ 32 → height * width ≤ 512
-arcs-within width height w h = mul-le-mul h w
-
 -- an arc at a place of the row, and past the row
 pub arc-in : (width : ℕ) (rows : List ℕ) (t p : ℕ) → p < width → cell_at width rows t p ≡ get_or rows (t * width + p) 0
 arc-in width rows t p h = cond-true (ltb p width) _ _ (lt-ltb p width h)
@@ -55,16 +51,3 @@ arc-none width height rows blank t p h =
 -- rows with the same numbers have the same arcs
 pub same-arcs : (width : ℕ) (rows rows' : List ℕ) → ((k : ℕ) → get_or rows k 0 ≡ get_or rows' k 0) → (t p : ℕ) → cell_at width rows t p ≡ cell_at width rows' t p
 same-arcs width rows rows' e t p = ap (λ x. cond (ltb p width) x 0) (e (t * width + p))
-
--- what a row that is read by itself has at p
-pub row-entry : (width : ℕ) (rows row : List ℕ) (t p : ℕ) → length row ≡ width → ((q : ℕ) → q < width → get_or row q 0 ≡ cell_at width rows t q) → get_or row p 0 ≡ cell_at width rows t p
-row-entry width rows row t p long reads =
-    ⊎_elim (reads p) (λ past. get_or_past row p 0 (omega arith) ∙ sym (arc-past width rows t p past)) (cases_lt p width)
-
--- an arc is as light as the numbers of its rows
-pub arc-light : (width : ℕ) (rows : List ℕ) (most : ℕ) → ((k : ℕ) → get_or rows k 0 ≤ most) → (t p : ℕ) → cell_at width rows t p ≤ most
-arc-light width rows most light t p =
-    ⊎_elim
-    (λ inside. let e = arc-in width rows t p inside in let l = light (t * width + p) in omega arith)
-    (λ past. let e = arc-past width rows t p past in omega arith)
-    (cases_lt p width)

@@ -1,5 +1,5 @@
 -- The largest and the least take of a place are what their names say.
-use Rattle.std.proofs.Common.{◌≡◌, ℕ, zero, suc, ◌+◌, ◌<◌, ◌≤◌, min, max, ◌⊎◌, nat_lt, List, [], ◌∷◌, ◌++◌, map, Option, Some, None, MatchOption, subst, sym, refl, ap, ◌∙◌, ⊎_elim, le_trans, add-one, arith}
+use Rattle.std.proofs.Common.{◌≡◌, ℕ, zero, suc, ◌+◌, ◌<◌, ◌≤◌, min, max, ◌⊎◌, nat_lt, List, [], ◌∷◌, ◌++◌, map, Option, Some, None, MatchOption, subst, sym, refl, ap, ◌∙◌, ⊎_elim, le_trans, arith}
 use Rattle.std.specs.List.{filter, fold, reduce, range_with_len}
 use native.Mathlib.Nat.{le-max_left, le-max_right}
 use Rattle.std.proofs.lemmas.List.{append-nil, map-append}
@@ -10,16 +10,6 @@ use Rattle.std.proofs.lemmas.Bool.Decides.{nat_tests}
 use Rattle.net.specs.Net.{Net}
 use Rattle.net.specs.Takes.{NoTaker, largest_below, largest_take, lesser_take, least_below, least_take, IsLargestTake, IsLeastTake}
 use Rattle.net.proofs.Below.{each_below}
-
--- the largest take with one more move
-pub largest-more : (n : Net) (p t : ℕ) → largest_below n p (t + 1) ≡ max (largest_below n p t) (n.takes t p)
-unfolding largest_below
-largest-more n p t = rw add-one
-
--- the least take with one more move
-pub least_more : (n : Net) (p t : ℕ) → least_below n p (t + 1) ≡ lesser_take (least_below n p t) (n.takes t p)
-unfolding least_below
-least_more n p t = rw add-one
 
 -- the larger of two numbers is one of them
 max-one : (a b : ℕ) → (max a b ≡ a) ⊎ (max a b ≡ b)
@@ -40,10 +30,6 @@ lesser-left a b h = (grind (arith, nat_tests), grind (arith, nat_tests))
 -- and at most the second
 lesser-right : (a b : ℕ) → AtMost (lesser_take a b) b
 lesser-right a b h = (grind (arith, nat_tests), grind (arith, nat_tests))
-
--- of two takes each chooses one
-max-picks : (a b : ℕ) → 1 ≤ a → 1 ≤ b → (max a b ≡ max a b) × (1 ≤ max a b)
-max-picks a b some more = (refl, le_trans some (le-max_left a b))
 
 lesser-picks : (a b : ℕ) → 1 ≤ a → 1 ≤ b → (lesser_take a b ≡ min a b) × (1 ≤ min a b)
 lesser-picks a b some more = (grind (arith, nat_tests), grind arith)

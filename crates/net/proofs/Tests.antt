@@ -1,43 +1,16 @@
 -- What the test of every number below a bound says, and what the test that a move is fed says.
-use Rattle.std.proofs.Common.{◌≡◌, ℕ, ◌+◌, ◌<◌, ◌≤◌, Bool, true, false, ◌&&◌, leb, List, get_or, Decides, MatchBool, sym, refl, ⊎_elim, add-one}
+use Rattle.std.proofs.Common.{◌≡◌, ℕ, ◌<◌, ◌≤◌, Bool, true, false, leb, List, get_or, Decides, MatchBool, sym, refl, ⊎_elim}
 use mathlib.Core.Bool.{and_comm}
-use Rattle.std.proofs.lemmas.Bool.{both_ways, leb-true, le-leb, cases_Bool}
+use Rattle.std.proofs.lemmas.Bool.{leb-true, le-leb, cases_Bool}
 use Rattle.std.proofs.lemmas.Bool.Decides.{Decides-and, Decides-ltb, Decides-below_and}
 use Rattle.net.specs.Sums.{every}
 use Rattle.net.specs.Net.{Net, Fed}
 use Rattle.net.specs.Fed.{is_fed}
 
--- no number fails below 0
-pub every-none : (f : ℕ → Bool) → every 0 f ≡ true
-unfolding every
-every-none f = refl
-
--- one more number to test
-pub every_more : (k : ℕ) (f : ℕ → Bool) → every (k + 1) f ≡ (every k f && f k)
-unfolding every
-every_more k f = rw add-one
-
 -- where f tells P, the test of all numbers below k tells P of all of them
 every-decides : (k : ℕ) (f : ℕ → Bool) (P : ℕ → Type 0) → ((j : ℕ) → Decides (f j) (P j)) → Decides (every k f) ((j : ℕ) → j < k → P j)
 unfolding every
 every-decides k f P each = Decides-below_and f P (λ n. every n f) each refl (λ n. and_comm (every n f) (f n)) k
-
--- the same of the test itself
-every-passes : (k : ℕ) (f : ℕ → Bool) → Decides (every k f) ((j : ℕ) → j < k → f j ≡ true)
-every-passes k f = every-decides k f (λ j. f j ≡ true) (λ j. (λ e. e, λ e. e))
-
--- where every number passes, each one does
-pub every-each : (k : ℕ) (f : ℕ → Bool) → every k f ≡ true → (j : ℕ) → j < k → f j ≡ true
-every-each k f = (every-passes k f).0
-
--- where each number passes, every one does
-pub each-every : (k : ℕ) (f : ℕ → Bool) → ((j : ℕ) → j < k → f j ≡ true) → every k f ≡ true
-each-every k f = (every-passes k f).1
-
--- where one number fails, not every one passes
-pub not-every : (k j : ℕ) (f : ℕ → Bool) → j < k → f j ≡ false → every k f ≡ false
-not-every k j f below fails =
-    ⊎_elim (λ yes. absurd (both_ways (f j) fails (every-each k f yes j below))) (λ no. no) (cases_Bool (every k f))
 
 -- the test that a move is fed tells that it is
 fed-decides : (n : Net) (m : List ℕ) (t : ℕ) → Decides (is_fed n m t) (Fed n m t)
