@@ -34,7 +34,7 @@ pub struct CertificateRecord {
 }
 
 // What a sheet says. What the moves take and give is in the plan; a place that the plan does not have holds 0, has the unit 1 and no taker.
-#[derive(Drop)]
+#[derive(Debug, Drop, PartialEq, Eq)]
 pub struct PlanRecord {
     pub plan: Plan,
     pub counts: Counts,

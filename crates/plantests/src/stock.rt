@@ -1,5 +1,7 @@
 use crate::sheets::{PAST_TWO_BYTES, THREE_MOVES, TWENTY_FOUR, TWO_MOVES, UNITS_OF_12};
 use plantext::Stock;
+use std::alloc::Global;
+use std::process::Abort;
 use std::test::Fail;
 
 // The limit of place p in stock, and the unit, the full units and the loose rest of its count.
@@ -27,42 +29,47 @@ fn at_the_limit_and_one_past_it(rt: HostRuntime) {
     assert_eq!(rt; booking(&bytes, 1), Some((65535, Some((1, 65535, 0)))));
 }
 
-fn shown(rt: &HostRuntime, bytes: &[u8]) -> Result<String, Fail> {
+fn shows(rt: &impl Abort, alloc: Global, bytes: &[u8], wanted: &str) -> Result<(), Fail> {
     let record = planrecord::describe(bytes)?;
-    Ok(format!(in rt.alloc(); "{}", Stock(&record))?)
+    let text = format!(in alloc; "{}", Stock(&record))?;
+    assert_eq!(rt; text.as_str(), wanted);
+    Ok(())
 }
 
 #[test]
 fn as_text(rt: HostRuntime) -> Result<(), Fail> {
-    let a = shown(&rt, TWENTY_FOUR)?;
-    assert_eq!(rt;
-        a.as_str(),
-        "stock, two bytes a place:\n  place 0: 2 full units of 12, 0 loose, limit 786431\n  place 1: 1 full units of 1, 0 loose, limit 65535\n  not booked: none\n"
-    );
-    let b = shown(&rt, THREE_MOVES)?;
-    assert_eq!(rt;
-        b.as_str(),
-        "stock, two bytes a place:\n  place 0: 3 full units of 2, 0 loose, limit 131071\n  place 1: 0 full units of 1, 0 loose, limit 65535\n  not booked: none\n"
-    );
-    let c = shown(&rt, TWO_MOVES)?;
-    assert_eq!(rt;
-        c.as_str(),
-        "stock, two bytes a place:\n  place 0: 1 full units of 1, 0 loose, limit 65535\n  place 1: 1 full units of 1, 0 loose, limit 65535\n  not booked: none\n"
-    );
-    Ok(())
+    shows(
+        &rt,
+        rt.alloc(),
+        TWENTY_FOUR,
+        "stock, two bytes a place:\n  place 0: 2 full units of 12, 0 loose, limit 786431\n  place 1: 1 full units of 1, 0 loose, limit 65535\n  not booked: none\n",
+    )?;
+    shows(
+        &rt,
+        rt.alloc(),
+        THREE_MOVES,
+        "stock, two bytes a place:\n  place 0: 3 full units of 2, 0 loose, limit 131071\n  place 1: 0 full units of 1, 0 loose, limit 65535\n  not booked: none\n",
+    )?;
+    shows(
+        &rt,
+        rt.alloc(),
+        TWO_MOVES,
+        "stock, two bytes a place:\n  place 0: 1 full units of 1, 0 loose, limit 65535\n  place 1: 1 full units of 1, 0 loose, limit 65535\n  not booked: none\n",
+    )
 }
 
 #[test]
 fn as_text_where_a_place_is_not_booked(rt: HostRuntime) -> Result<(), Fail> {
-    let past = shown(&rt, PAST_TWO_BYTES)?;
-    assert_eq!(rt;
-        past.as_str(),
-        "stock, two bytes a place:\n  place 0: 2 full units of 12, 5 loose, limit 786431\n  place 1: not booked, limit 65535\n  not booked: place 1\n"
-    );
-    let one_past = shown(&rt, UNITS_OF_12)?;
-    assert_eq!(rt;
-        one_past.as_str(),
-        "stock, two bytes a place:\n  place 0: 65535 full units of 12, 11 loose, limit 786431\n  place 1: not booked, limit 65535\n  not booked: place 1\n"
-    );
-    Ok(())
+    shows(
+        &rt,
+        rt.alloc(),
+        PAST_TWO_BYTES,
+        "stock, two bytes a place:\n  place 0: 2 full units of 12, 5 loose, limit 786431\n  place 1: not booked, limit 65535\n  not booked: place 1\n",
+    )?;
+    shows(
+        &rt,
+        rt.alloc(),
+        UNITS_OF_12,
+        "stock, two bytes a place:\n  place 0: 65535 full units of 12, 11 loose, limit 786431\n  place 1: not booked, limit 65535\n  not booked: place 1\n",
+    )
 }

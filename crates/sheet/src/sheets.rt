@@ -2,7 +2,7 @@ use clause::Certificate;
 use net::{Counts, Plan, ReadPlan};
 
 // What the bytes of a sheet spell. `state` is the plan before it is opened.
-#[derive(Drop)]
+#[derive(Debug, Drop)]
 pub struct Sheet {
     pub state: ReadPlan,
     pub plan: Plan,

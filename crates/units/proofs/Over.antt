@@ -1,20 +1,12 @@
 -- The unit over a limit of the board below.
-use Rattle.std.proofs.Common.{◌≡◌, ℕ, ◌+◌, ◌*◌, ◌<◌, ◌≤◌, leb, List, get_or, refl}
-use Rattle.std.proofs.lemmas.Bool.{le-leb, lt-leb, cond-true, cond-false, cond_both}
+use Rattle.std.proofs.Common.{◌≡◌, ℕ, ◌+◌, ◌*◌, ◌≤◌, leb, List, get_or, refl}
+use Rattle.std.proofs.lemmas.Bool.{cond_both}
 use Rattle.net.specs.Divisors.{unit_of}
 use Rattle.net.specs.Model.{net}
 use Rattle.net.specs.declared.plan.Plan.{Plan}
 use Rattle.net.proofs.Gcds.{unit-is}
 use Rattle.net.proofs.Rows.{arc-past}
-use Rattle.units.specs.Units.{unit_over_limit, unit_at}
-
--- a unit with which counts keep to 32 bits is the plan's
-pub over-fits : (limit unit : ℕ) → (limit + 1) * unit ≤ 4294967296 → unit_over_limit limit unit ≡ unit
-over-fits limit unit small = cond-true (leb ((limit + 1) * unit) 4294967296) unit 1 (le-leb _ _ small)
-
--- a unit with which they do not is passed over
-pub over-passes : (limit unit : ℕ) → 4294967296 < (limit + 1) * unit → unit_over_limit limit unit ≡ 1
-over-passes limit unit large = cond-false (leb ((limit + 1) * unit) 4294967296) unit 1 (lt-leb _ _ large)
+use Rattle.units.specs.Units.{unit_at}
 
 -- beyond the plan the unit is 1
 pub beyond-single : (plan : Plan) (limits : List ℕ) (p : ℕ) → plan.places ≤ p → unit_at (net plan) limits p ≡ 1

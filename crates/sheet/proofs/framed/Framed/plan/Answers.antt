@@ -3,8 +3,8 @@ use Rattle.std.proofs.lemmas.Option.{MatchOption-at_some}
 use Rattle.net.specs.Model.{net}
 use Rattle.sheet.specs.Layout.{word16, arcs_in, arc_at}
 use Rattle.sheet.proofs.Asked.{first-heavy}
-use Rattle.sheet.proofs.Slices.{reads-part, made}
-use Rattle.sheet.proofs.Arcs.{arcs-of, Rows, heavy-arc, light-arcs, lawful-rows, spells-net}
+use Rattle.sheet.proofs.Slices.{reads-part}
+use Rattle.sheet.proofs.Arcs.{arcs-of, Rows, heavy-arc, light-arcs, spells-net}
 use Rattle.sheet.proofs.framed.Framed.plan.Goals as goal
 use Rattle.sheet.proofs.framed.Framed.plan.Goals.{After-split_at}
 
@@ -28,9 +28,6 @@ rows-read c =
 
 pub returns-in-Some : goal.returns-in-Some
 returns-in-Some c = first-heavy c.args.self.now.read (heavy-arc c.args.self.now.read (rows-read (goal.at.returns-in-Some c).After-split_at) c.in-Some.k c.in-Some.ensures)
-
-pub unwrap-requires : goal.unwrap-requires
-unwrap-requires c = made _ c.new.result c.new.ensures (lawful-rows c.args.self.now.read (rows-read (goal.at.unwrap-requires c).After-split_at) c.in_default.ensures)
 
 pub returns : goal.returns
 returns c =

@@ -1,4 +1,4 @@
-use Rattle.std.proofs.Common.{◌*◌, ap, ◌∙◌, arith}
+use Rattle.std.proofs.Common.{◌∙◌, arith}
 use Rattle.net.specs.Model.{net}
 use Rattle.units.proofs.Scaled.{counts-long}
 use Rattle.units.proofs.units_board.UnitsBoardReadBoard.count.Goals as goal
@@ -9,11 +9,6 @@ returns-in_err-parts g c =
     let below = self.below.now in
     let long = counts-long (net self.plan.now) (g.B.Board.limits below) (g.B.ReadBoard.counts below) self.rests in
     rw c.from_residual.ensures (omega (arith, long, c.in_err-parts.ensures))
-
-pub whole-requires : goal.whole-requires
-whole-requires g c =
-    let parts = c.in_ok-parts.ensures in
-    omega (arith, ap (λ u. c.in_ok-parts.parts.full * u) parts.split.same, parts.split.whole, parts.small)
 
 pub returns : goal.returns
 returns g c =
