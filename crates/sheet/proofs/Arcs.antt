@@ -1,8 +1,8 @@
 -- The takes and the gives of a sheet, read as one list.
-use Rattle.std.proofs.Common.{◌≡◌, ℕ, ◌+◌, ◌*◌, ◌<◌, ◌≤◌, List, length, get_or, sym, ap, ◌∙◌, arith}
+use Rattle.std.proofs.Common.{◌≡◌, ℕ, ◌+◌, ◌*◌, ◌<◌, ◌≤◌, List, length, get_or, ap, ◌∙◌, arith}
 use Rattle.net.specs.Net.{Net}
-use Rattle.net.specs.Model.{cell_at, spelled, Lawful, Same}
-use Rattle.net.proofs.Rows.{bounded, row_within, arc-in}
+use Rattle.net.specs.Model.{cell_at, spelled, Same}
+use Rattle.net.proofs.Rows.{row_within, arc-in}
 use Rattle.sheet.specs.Layout.{word16, places_in, moves_in, arcs_in, arc_at}
 use Rattle.sheet.specs.Spelled.{SpellsNet}
 use Rattle.sheet.specs.Stages.{HeaderRead, ArcsLight, FirstHeavy}
@@ -42,18 +42,6 @@ module _ {bytes arcs ts gs : List ℕ} {header : Header} (h : HeaderRead bytes h
   module _ (light : (k : ℕ) → k < length arcs → get_or arcs k 0 ≤ 1000) where
     pub light-arcs : ArcsLight bytes
     light-arcs k within = omega (arith, rows.all.each k within, light k (omega (arith, rows.all.long)))
-
-    pub lawful-rows : Lawful header.places header.moves ts gs
-    lawful-rows = record {
-      some_places = omega arith;
-      few_places = omega arith;
-      some_moves = omega arith;
-      few_moves = omega arith;
-      takes_long = rows.takes.long ∙ sym (arcs-of h);
-      gives_long = rows.gives.long ∙ sym (arcs-of h);
-      takes_light = bounded ts 1000 (λ k inside. let n = rows.takes.long in omega (arith, rows.takes.each k (omega arith), light-arcs k (omega arith)));
-      gives_light = bounded gs 1000 (λ k inside. let n = rows.gives.long in omega (arith, rows.gives.each k (omega arith), light-arcs (arcs_in bytes + k) (omega arith)));
-    }
 
   -- a plan of these rows is the plan that the bytes spell
   pub spells-net : (n : Net) → Same n (spelled header.places header.moves ts gs) → SpellsNet bytes n

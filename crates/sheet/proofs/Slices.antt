@@ -1,6 +1,5 @@
 -- The numbers of a sheet as the lists that are read from it.
-use Rattle.std.proofs.Common.{◌≡◌, ℕ, ◌<◌, ◌≤◌, Option, Some, None, List, length, get_or, take, refl, ◌∙◌, MatchOption, arith}
-use Rattle.std.specs.Option.{IsSome}
+use Rattle.std.proofs.Common.{◌≡◌, ℕ, ◌<◌, ◌≤◌, List, length, get_or, take, ◌∙◌, arith}
 use Rattle.std.proofs.lemmas.List.{length-take-le, get_or-take}
 
 -- n numbers, those that f gives
@@ -14,8 +13,3 @@ reads-part count n f words is fits filled = record {
   long = length-take-le count words (omega arith) ∙ is;
   each = λ k h. get_or-take count words k 0 (omega arith) ∙ filled k 0 (omega arith);
 }
-
--- a value that is made wherever P holds is made
-pub made : {T P : Type 0} (Q : T → Type 0) (o : Option T) → MatchOption o (P → ⊥) Q → P → IsSome o
-made Q None refused p = absurd (refused p)
-made Q (Some x) kept p = refl
