@@ -5,10 +5,6 @@ use Rattle.std.proofs.lemmas.List.{get_or_past, get_or-replicate, get_or_append_
 use Rattle.std.proofs.lemmas.Bool.{cases_lt, lt-ltb, le-ltb, cond-true, cond-false}
 use Rattle.net.specs.Model.{cell_at}
 
--- a bound on the numbers of a list holds at every index, since there is 0 past the end
-pub bounded : (xs : List ℕ) (n : ℕ) → ((k : ℕ) → k < length xs → get_or xs k 0 ≤ n) → (k : ℕ) → get_or xs k 0 ≤ n
-bounded xs n below k = ⊎_elim (below k) (λ past. let e : get_or xs k 0 ≡ 0 = get_or_past xs k 0 past in omega arith) (cases_lt k (length xs))
-
 -- noughts are noughts at every index
 pub noughts : (n k : ℕ) → ◌≡◌ {A = ℕ} (get_or (replicate n 0) k 0) 0
 noughts n k = ⊎_elim (get_or-replicate n k 0 0) (λ past. get_or_past (replicate n 0) k 0 (simp length-replicate past)) (cases_lt k n)
