@@ -70,9 +70,7 @@ impl<'m> Board for ByteBoard<'m> {
     }
 
     fn set(&mut self, p: u32, n: u32) -> Result<(), NotSet> {
-        let Ok(n) = u16::try_from(n) else {
-            return Err(NotSet);
-        };
+        let n = u16::try_from(n).map_err(|_| NotSet)?;
         if p >= self.places() {
             return Err(NotSet);
         }

@@ -1,5 +1,6 @@
 -- The net that a plan stands for.
-use Rattle.std.specs.Prelude.{◌≡◌, ℕ, ◌+◌, ◌*◌, ◌<◌, ◌≤◌, cond, List, length, nat_lt, slice_index}
+use Rattle.std.specs.Prelude.{◌≡◌, ℕ, ◌+◌, ◌*◌, ◌<◌, ◌≤◌, cond, List, length, Some, None, Option, nat_lt, slice_index}
+use Rattle.std.specs.Borrow.{Bor}
 use Rattle.net.specs.Net.{Net}
 use Rattle.net.specs.declared.plan.Plan.{Plan}
 
@@ -17,6 +18,11 @@ net plan = spelled plan.places plan.moves plan.takes plan.gives
 -- the numbers of row t, one for each place
 abbrev pub IsRow : Net → (ℕ → ℕ → ℕ) → ℕ → List ℕ → Type 0
 IsRow n arc t row = (length row ≡ n.places) × ((p : ℕ) → p < n.places → slice_index row p ≡ arc t p)
+
+-- row t, absent if and only if there is no move t
+abbrev pub IsRowAt : Net → (ℕ → ℕ → ℕ) → ℕ → Option (Bor (List ℕ)) → Type 0
+IsRowAt n arc t None = n.moves ≤ t
+IsRowAt n arc t (Some row) = (t < n.moves) × IsRow n arc t row.now
 
 -- every number is at most the largest weight of an arc
 abbrev pub Light : List ℕ → Type 0

@@ -1,6 +1,6 @@
 // How a plan is made, and what it says of each move and place.
 ghost use Rattle.std.specs.Prelude.{◌≡◌, ℕ, ◌+◌, ◌*◌, ◌<◌, ◌≤◌, length, IfSome, IsNone, MatchBool, MatchOption, slice_index};
-ghost use Rattle.net.specs.Model.{net, spelled, cell_at, Lawful, Light, Same, IsRow};
+ghost use Rattle.net.specs.Model.{net, spelled, cell_at, Lawful, Light, Same, IsRowAt};
 
 use super::{MOST_ARC_WEIGHT, MOST_MOVES, MOST_PLACES, Plan};
 
@@ -57,7 +57,7 @@ impl Plan {
     pub fn new(places: u32, moves: u32, takes: &[u16], gives: &[u16]) -> Option<Plan>
         ensures { MatchOption result (Lawful places moves takes.now gives.now → ⊥) (λ plan. Lawful places moves takes.now gives.now × Same (net plan) (spelled places moves takes.now gives.now)) }
     {
-        if places < 1 || places > MOST_PLACES || moves < 1 || moves > MOST_MOVES {
+        if !(1..=MOST_PLACES).contains(&places) || !(1..=MOST_MOVES).contains(&moves) {
             return None;
         }
         let arcs = (moves * places) as usize;
@@ -88,21 +88,21 @@ impl Plan {
 
     // The row of move t among takes or gives, absent where the plan has no such move.
     fn row<'a>(&self, arcs: &'a [u16; 512], t: u32) -> Option<&'a [u16]>
-        ensures { MatchOption result ((net self.now).moves ≤ t) (λ row. (t < (net self.now).moves) × IsRow (net self.now) (cell_at (net self.now).places arcs.now) t row.now) }
+        ensures { IsRowAt (net self.now) (cell_at (net self.now).places arcs.now) t result }
     {
         (t < self.moves).then(|| row_of(arcs, self.places, t))
     }
 
     // What move t takes at each place, absent where the plan has no such move.
     pub fn takes_of(&self, t: u32) -> Option<&[u16]>
-        ensures { MatchOption result ((net self.now).moves ≤ t) (λ row. (t < (net self.now).moves) × IsRow (net self.now) (net self.now).takes t row.now) }
+        ensures { IsRowAt (net self.now) (net self.now).takes t result }
     {
         self.row(&self.takes, t)
     }
 
     // What move t gives at each place, absent where the plan has no such move.
     pub fn gives_of(&self, t: u32) -> Option<&[u16]>
-        ensures { MatchOption result ((net self.now).moves ≤ t) (λ row. (t < (net self.now).moves) × IsRow (net self.now) (net self.now).gives t row.now) }
+        ensures { IsRowAt (net self.now) (net self.now).gives t result }
     {
         self.row(&self.gives, t)
     }

@@ -1,4 +1,4 @@
-use Rattle.std.proofs.Common.{◌≡◌, ◌+◌, ◌-◌, ◌*◌, ◌/◌, ◌%◌, ◌<◌, ◌∷◌, [], length, set, refl, ap, ◌∙◌, arith}
+use Rattle.std.proofs.Common.{◌≡◌, ◌+◌, ◌-◌, ◌*◌, ◌/◌, ◌%◌, ◌<◌, ◌∷◌, [], length, set, refl, ap, ◌∙◌, rules, arith}
 use borrow.Rule.Slice.PartMut.{put_mid}
 use Rattle.board.specs.Bytes.{byte_counts}
 use Rattle.board.proofs.EvenLimits.{even-holds}
@@ -12,8 +12,8 @@ pub returns : goal.returns
 returns c =
     let bytes = c.args.self.now.bytes.now in
     let p = c.args.p in
-    let n = c.in-Ok.n in
-    let same = c.in-Ok.ensures in
+    let n = c.in_ok-n.n in
+    let same : (c.args.n < 65536) × (n ≡ c.args.n) = search rules in
     let there : p < length (byte_counts bytes) = omega arith in
     let low = n % 256 in
     let high = n / 256 % 256 in
