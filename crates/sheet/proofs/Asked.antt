@@ -5,10 +5,10 @@ use Rattle.clause.specs.Kinds.{code_of, lawful_number, lawful_ceiling}
 use Rattle.clause.specs.declared.kind.Kind.{Kind}
 use Rattle.clause.specs.declared.kind.Kind.TheVariants.{Blank, Ceiling, NeverStuck, DeadSet, KeptSet}
 use Rattle.sheet.specs.Layout.{word16, word64, places_in, moves_in, first_code, second_code, first_at, second_at, number_at, size_of}
-use Rattle.sheet.specs.Questions.{Outside, BadCertificate, Wrong, Lawful, FirstWrong}
+use Rattle.sheet.specs.Questions.{Outside, BadCertificate, Wrong, Lawful}
 use Rattle.refusal.specs.declared.refusals.SheetRefusal.{SheetRefusal}
 use Rattle.refusal.specs.Refusals.{answer_of_sheet}
-use Rattle.sheet.specs.Stages.{Refused, HeaderRead, ArcsLight, FirstHeavy, FieldsLawful, FirstUnlawful, FieldRefused, ceiling, number}
+use Rattle.sheet.specs.Stages.{Refused, HeaderRead, ArcsLight, FieldsLawful, FirstUnlawful, WeightRefused, FieldRefused, ceiling, number}
 use Rattle.sheet.specs.declared.header.Header.{Header}
 
 -- every question before this one got a yes
@@ -124,12 +124,13 @@ module _ {bytes : List ℕ} {header : Header} (h : HeaderRead bytes header) wher
   light-passed = passed-weight bytes (passed-header bytes header h)
 
   -- the first heavy arc is the first no
-  pub first-heavy : {offset : ℕ} → FirstHeavy bytes offset → FirstWrong bytes 5 offset
-  first-heavy f = record {
-    wrong = (f.index, f.within, f.at, f.heavy);
-    before = passed-header bytes header h;
-    lowest = λ lower below w. omega (arith, w.2, w.3, f.before w.0 (omega (arith, w.2)));
-  }
+  pub first-heavy : (refusal : SheetRefusal) → WeightRefused bytes refusal → Refused bytes refusal
+  first-heavy refusal (asked, f) =
+      rw asked (record {
+        wrong = (f.index, f.within, f.at, f.heavy);
+        before = passed-header bytes header h;
+        lowest = λ lower below w. omega (arith, w.2, w.3, f.before w.0 (omega (arith, w.2)));
+      })
 
   -- so is the first unlawful field of the first certificate, which ends before the second starts
   pub first-unlawful : (refusal : SheetRefusal) → ArcsLight bytes → FieldRefused bytes header.first (first_at bytes) refusal → Refused bytes refusal

@@ -48,6 +48,10 @@ pub data FirstUnlawful (bytes : List ℕ) (kind : Kind) (start offset : ℕ) : T
       → lawful_ceiling kind (word64 bytes start) ≡ true → ((k : ℕ) → k < p → lawful_number kind (word16 bytes (number_at start k)) ≡ true)
       → FirstUnlawful bytes kind start offset
 
+-- the refusal names the first take or give that is too large
+abbrev pub WeightRefused : List ℕ → SheetRefusal → Type 0
+WeightRefused bytes refusal = ((answer_of_sheet refusal).number ≡ 5) × FirstHeavy bytes (answer_of_sheet refusal).spot
+
 -- the refusal names the first unlawful field of this certificate
 abbrev pub FieldRefused : List ℕ → Kind → ℕ → SheetRefusal → Type 0
 FieldRefused bytes kind start refusal = ((answer_of_sheet refusal).number ≡ 6) × FirstUnlawful bytes kind start (answer_of_sheet refusal).spot

@@ -5,7 +5,7 @@ ghost use Rattle.net.specs.Marking.{marking};
 ghost use Rattle.clause.specs.Kinds.{code_of};
 ghost use Rattle.clause.specs.Certificates.{values_of};
 ghost use Rattle.sheet.specs.Spelled.{SpellsNet, SpellsCounts, SpellsCertificate};
-ghost use Rattle.sheet.specs.Stages.{Refused, ArcsLight, FieldsLawful, FieldRefused};
+ghost use Rattle.sheet.specs.Stages.{WeightRefused, ArcsLight, FieldsLawful, FieldRefused};
 
 use crate::framed::Framed;
 use crate::words::{Word, words};
@@ -16,7 +16,7 @@ use refusal::SheetRefusal;
 impl Framed<'_> {
     // The plan, or the first take or give that is too large.
     pub(crate) fn plan(&self) -> Result<Plan, SheetRefusal>
-        ensures { MatchResult result (λ plan. ArcsLight self.now.bytes.now × SpellsNet self.now.bytes.now (net plan)) (λ e. Refused self.now.bytes.now e) }
+        ensures { MatchResult result (λ plan. ArcsLight self.now.bytes.now × SpellsNet self.now.bytes.now (net plan)) (λ e. WeightRefused self.now.bytes.now e) }
     {
         let count = self.header.arcs();
         let arcs: [u16; 1024] = words(self.bytes, 4, 2 * count);

@@ -43,12 +43,8 @@ impl<'a> Framed<'a> {
         if !(1..=MOST_MOVES).contains(&moves) {
             return Err(SheetRefusal::Size { offset: 1 });
         }
-        let Some(first) = first_kind(*first) else {
-            return Err(SheetRefusal::Kind { offset: 2 });
-        };
-        let Ok(second) = Kind::try_from(*second) else {
-            return Err(SheetRefusal::Kind { offset: 3 });
-        };
+        let first = first_kind(*first).ok_or(SheetRefusal::Kind { offset: 2 })?;
+        let second = Kind::try_from(*second).map_err(|_| SheetRefusal::Kind { offset: 3 })?;
         let header = Header {
             places,
             moves,

@@ -1,7 +1,12 @@
 use Rattle.std.proofs.Common.{◌∙◌}
 use Rattle.std.proofs.lemmas.Result.{err_from_is_err_and}
-use Rattle.sheet.proofs.Asked.{first-unlawful, second-unlawful, both-lawful, first-start, second-start}
+use Rattle.sheet.proofs.Asked.{first-heavy, first-unlawful, second-unlawful, both-lawful, first-start, second-start}
 use Rattle.sheet.proofs.reading.read_fields.Goals as goal
+
+pub returns-in_err-plan : goal.returns-in_err-plan
+returns-in_err-plan c =
+    let exit = err_from_is_err_and c.from_residual-in_err-plan.result c.from_residual-in_err-plan.ensures.1 in
+    rw (exit.1, exit.2, ← c.in_ok-framed.ensures) (first-heavy c.in_ok-framed.framed.read _ c.in_err-plan.ensures)
 
 pub returns-in_err-first : goal.returns-in_err-first
 returns-in_err-first c =

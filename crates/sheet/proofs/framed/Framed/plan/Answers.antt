@@ -1,8 +1,7 @@
-use Rattle.std.proofs.Common.{◌≡◌, ◌+◌, ◌*◌, take, ap, ◌∙◌, arith}
+use Rattle.std.proofs.Common.{◌≡◌, ◌+◌, ◌*◌, take, refl, ap, ◌∙◌, arith}
 use Rattle.std.proofs.lemmas.Option.{MatchOption-at_some}
 use Rattle.net.specs.Model.{net}
 use Rattle.sheet.specs.Layout.{word16, arcs_in, arc_at}
-use Rattle.sheet.proofs.Asked.{first-heavy}
 use Rattle.sheet.proofs.Slices.{reads-part}
 use Rattle.sheet.proofs.Arcs.{arcs-of, Rows, heavy-arc, light-arcs, spells-net}
 use Rattle.sheet.proofs.framed.Framed.plan.Goals as goal
@@ -27,7 +26,7 @@ rows-read c =
     }
 
 pub returns-in-Some : goal.returns-in-Some
-returns-in-Some c = first-heavy c.args.self.now.read (heavy-arc c.args.self.now.read (rows-read (goal.at.returns-in-Some c).After-split_at) c.in-Some.k c.in-Some.ensures)
+returns-in-Some c = (refl, heavy-arc c.args.self.now.read (rows-read (goal.at.returns-in-Some c).After-split_at) c.in-Some.k c.in-Some.ensures)
 
 pub returns : goal.returns
 returns c =
