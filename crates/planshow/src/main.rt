@@ -7,7 +7,7 @@ use std::io::ErrorKind;
 use std::{env, fs, io};
 
 // What a record is shown as.
-#[derive(Clone, Copy)]
+#[derive(Clone, Copy, Debug, PartialEq, Eq)]
 enum Form {
     Text,
     Dot,
@@ -40,9 +40,10 @@ fn show(rt: &HostRuntime, form: Form, path: &str) -> io::Result<()> {
 
 fn run(rt: &HostRuntime) -> anyhow::Result<()> {
     let mut words = env::args(rt)?.skip(1).peekable();
-    let form = match words.next_if(|word| word.as_str() == "dot") {
-        Some(_) => Form::Dot,
-        None => Form::Text,
+    let form = if words.next_if(|word| word.as_str() == "dot").is_some() {
+        Form::Dot
+    } else {
+        Form::Text
     };
     if words.peek().is_none() {
         show(rt, form, "plan.sheet")?;

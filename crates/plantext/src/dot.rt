@@ -2,7 +2,7 @@
 use planrecord::PlanRecord;
 use std::fmt;
 
-#[derive(Clone, Copy)]
+#[derive(Clone, Copy, Debug, PartialEq, Eq)]
 pub struct Dot<'a>(pub &'a PlanRecord);
 
 fn write_arcs<W: fmt::Write>(f: &mut fmt::Formatter<W>, shown: &PlanRecord, t: u32) -> fmt::Result {

@@ -4,7 +4,7 @@ use planrecord::{PlanRecord, StockRecord};
 use std::fmt;
 use units::InUnits;
 
-#[derive(Clone, Copy)]
+#[derive(Clone, Copy, Debug, PartialEq, Eq)]
 pub struct Stock<'a>(pub &'a PlanRecord);
 
 fn write_booking<W: fmt::Write>(

@@ -5,7 +5,7 @@ use planrecord::{CertificateRecord, PlaceRecord, PlanRecord, WeighingRecord};
 use std::fmt;
 use weigh::Weighing;
 
-#[derive(Clone, Copy)]
+#[derive(Clone, Copy, Debug, PartialEq, Eq)]
 pub struct Text<'a>(pub &'a PlanRecord);
 
 fn write_place<W: fmt::Write>(
