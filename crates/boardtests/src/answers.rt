@@ -1,22 +1,22 @@
 // The boards that stand by themselves.
 use board::{Board, ByteBoard, NotSet, NumberBoard, ReadBoard};
 use net::Counts;
+use std::process::Abort;
 use std::test::Fail;
+
+fn has_no_place<B: Board>(rt: &impl Abort, board: &mut B) {
+    assert_eq!(rt; board.places(), 0);
+    assert_eq!(rt; board.count(0), None);
+    assert_eq!(rt; board.limit(0), None);
+    assert_eq!(rt; board.set(0, 0), Err(NotSet));
+}
 
 #[test]
 fn no_memory_has_no_place(rt: HostRuntime) {
     let mut numbers = [0u32; 0];
-    let mut board = NumberBoard::new(&mut numbers);
-    assert_eq!(rt; board.places(), 0);
-    assert_eq!(rt; board.count(0), None);
-    assert_eq!(rt; board.limit(0), None);
-    assert_eq!(rt; board.set(0, 0), Err(NotSet));
+    has_no_place(&rt, &mut NumberBoard::new(&mut numbers));
     let mut byte = [7u8; 1];
-    let mut board = ByteBoard::new(&mut byte);
-    assert_eq!(rt; board.places(), 0);
-    assert_eq!(rt; board.count(0), None);
-    assert_eq!(rt; board.limit(0), None);
-    assert_eq!(rt; board.set(0, 0), Err(NotSet));
+    has_no_place(&rt, &mut ByteBoard::new(&mut byte));
 }
 
 #[test]

@@ -15,9 +15,9 @@ fn as_a_picture(rt: HostRuntime) -> Result<(), Fail> {
 
 #[test]
 fn a_refusal_is_one_line(rt: HostRuntime) -> Result<(), Fail> {
-    let Err(refusal) = planrecord::describe(&[]) else {
-        return Err(Fail::new("not refused"));
-    };
+    let refusal = planrecord::describe(&[])
+        .err()
+        .ok_or_else(|| Fail::new("not refused"))?;
     let text = format!(in rt.alloc(); "{refusal}")?;
     assert_eq!(rt; text.as_str(), "no 1 0 0");
     Ok(())

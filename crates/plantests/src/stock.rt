@@ -1,32 +1,37 @@
 use crate::sheets::{PAST_TWO_BYTES, THREE_MOVES, TWENTY_FOUR, TWO_MOVES, UNITS_OF_12};
+use planrecord::StockRecord;
 use plantext::Stock;
 use std::alloc::Global;
 use std::process::Abort;
 use std::test::Fail;
+use units::InUnits;
 
-// The limit of place p in stock, and the unit, the full units and the loose rest of its count.
-fn booking(bytes: &[u8], p: usize) -> Option<(u32, Option<(u32, u32, u32)>)> {
+// What is recorded of the stock of place p.
+fn booking(bytes: &[u8], p: usize) -> Option<StockRecord> {
     let record = planrecord::describe(bytes).ok()?;
-    let stock = record.stock.get(p)?;
-    let parts = stock
-        .parts
-        .map(|parts| (parts.unit, parts.full, parts.loose));
-    Some((stock.limit, parts))
+    record.stock.get(p).copied()
+}
+
+// A limit alone, and a limit with the unit, the full units and the loose rest of a count.
+fn not_booked(limit: u32) -> Option<StockRecord> {
+    Some(StockRecord { limit, parts: None })
+}
+
+fn booked(limit: u32, unit: u32, full: u32, loose: u32) -> Option<StockRecord> {
+    let parts = Some(InUnits { unit, full, loose });
+    Some(StockRecord { limit, parts })
 }
 
 #[test]
 fn at_the_limit_and_one_past_it(rt: HostRuntime) {
-    assert_eq!(rt;
-        booking(UNITS_OF_12, 0),
-        Some((786431, Some((12, 65535, 11))))
-    );
-    assert_eq!(rt; booking(UNITS_OF_12, 1), Some((65535, None)));
-    assert_eq!(rt; booking(UNITS_OF_12, 2), Some((65535, Some((1, 0, 0)))));
+    assert_eq!(rt; booking(UNITS_OF_12, 0), booked(786431, 12, 65535, 11));
+    assert_eq!(rt; booking(UNITS_OF_12, 1), not_booked(65535));
+    assert_eq!(rt; booking(UNITS_OF_12, 2), booked(65535, 1, 0, 0));
     let mut bytes = *UNITS_OF_12;
     bytes[20..24].copy_from_slice(&786432u32.to_le_bytes());
     bytes[24..28].copy_from_slice(&65535u32.to_le_bytes());
-    assert_eq!(rt; booking(&bytes, 0), Some((786431, None)));
-    assert_eq!(rt; booking(&bytes, 1), Some((65535, Some((1, 65535, 0)))));
+    assert_eq!(rt; booking(&bytes, 0), not_booked(786431));
+    assert_eq!(rt; booking(&bytes, 1), booked(65535, 1, 65535, 0));
 }
 
 fn shows(rt: &impl Abort, alloc: Global, bytes: &[u8], wanted: &str) -> Result<(), Fail> {
