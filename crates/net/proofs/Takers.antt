@@ -31,6 +31,13 @@ lesser-left a b h = (grind (arith, nat_tests), grind (arith, nat_tests))
 lesser-right : (a b : ℕ) → AtMost (lesser_take a b) b
 lesser-right a b h = (grind (arith, nat_tests), grind (arith, nat_tests))
 
+-- where only one of two is a take, it is chosen; else the lesser
+lesser-none : (a : ℕ) → lesser_take a 0 ≡ a
+lesser-none a = grind (arith, nat_tests)
+
+none-lesser : (b : ℕ) → lesser_take 0 b ≡ b
+none-lesser b = grind (arith, nat_tests)
+
 lesser-picks : (a b : ℕ) → 1 ≤ a → 1 ≤ b → (lesser_take a b ≡ min a b) × (1 ≤ min a b)
 lesser-picks a b some more = (grind (arith, nat_tests), grind arith)
 
@@ -62,31 +69,22 @@ takes-more f k =
     ap takes_of (map-next f k)
     ∙ filter-append (λ v. nat_lt 0 v) (map f (range_with_len 0 k)) (f k ∷ [])
 
--- `pick` chooses of two takes, and `combine` does the same with 0 for no take
-module _ (pick combine : ℕ → ℕ → ℕ) (right : (a : ℕ) → combine a 0 ≡ a) (left : (b : ℕ) → combine 0 b ≡ b) (both : (a b : ℕ) → 1 ≤ a → 1 ≤ b → (combine a b ≡ pick a b) × (1 ≤ pick a b)) where
-  -- an absent take, or a take that 0 stands for
-  abbrev Agrees : Option ℕ → ℕ → Type 0
-  Agrees found chosen = MatchOption found (chosen ≡ 0) (λ m. (m ≡ chosen) × (1 ≤ m))
+-- an absent take, or a take that 0 stands for
+abbrev Agrees : Option ℕ → ℕ → Type 0
+Agrees found chosen = MatchOption found (chosen ≡ 0) (λ m. (m ≡ chosen) × (1 ≤ m))
 
-  agrees-more : (xs : List ℕ) (chosen taken : ℕ) → Agrees (reduce pick xs) chosen → Agrees (reduce pick (xs ++ takes_of (taken ∷ []))) (combine chosen taken)
-  agrees-more xs chosen zero h = rw (append-nil xs, right chosen) h
-  agrees-more [] chosen (suc b) h =
-      let some : 1 ≤ suc b = omega arith in
-      subst (λ ys. Agrees (reduce pick ys) (combine chosen (suc b))) (sym (taken-stays (suc b) some)) (sym (ap (λ a. combine a (suc b)) h ∙ left (suc b)), some)
-  agrees-more (x ∷ xs) chosen (suc b) h =
-      let some : 1 ≤ suc b = omega arith in
-      let step = both (fold pick x xs) (suc b) h.1 some in
-      let e : fold pick x (xs ++ suc b ∷ []) ≡ pick (fold pick x xs) (suc b) = fold-append pick x xs (suc b ∷ []) in
-      subst (λ ys. Agrees (reduce pick (x ∷ xs ++ ys)) (combine chosen (suc b))) (sym (taken-stays (suc b) some))
-      (e ∙ sym step.0 ∙ ap (λ a. combine a (suc b)) h.0, subst (λ v. 1 ≤ v) (sym e) step.1)
-
-  -- what `pick` makes of the takes of the first moves is what `combine` makes of them in turn
-  pub agrees : (f chosen : ℕ → ℕ) → chosen 0 ≡ 0 → ((k : ℕ) → chosen (suc k) ≡ combine (chosen k) (f k)) → (k : ℕ) → Agrees (reduce pick (takes_of (map f (range_with_len 0 k)))) (chosen k)
-  agrees f chosen none more zero = none
-  agrees f chosen none more (suc k) =
-      subst (λ ys. Agrees (reduce pick ys) (chosen (suc k))) (sym (takes-more f k))
-      (subst (λ v. Agrees (reduce pick (takes_of (map f (range_with_len 0 k)) ++ takes_of (f k ∷ []))) v) (sym (more k))
-      (agrees-more (takes_of (map f (range_with_len 0 k))) (chosen k) (f k) (agrees f chosen none more k)))
+-- one more number for the least take: it is no take, or the first one, or one to be compared
+agrees-more : (xs : List ℕ) (chosen taken : ℕ) → Agrees (reduce min xs) chosen → Agrees (reduce min (xs ++ takes_of (taken ∷ []))) (lesser_take chosen taken)
+agrees-more xs chosen zero h = rw (append-nil xs, lesser-none chosen) h
+agrees-more [] chosen (suc b) h =
+    let some : 1 ≤ suc b = omega arith in
+    subst (λ ys. Agrees (reduce min ys) (lesser_take chosen (suc b))) (sym (taken-stays (suc b) some)) (sym (ap (λ a. lesser_take a (suc b)) h ∙ none-lesser (suc b)), some)
+agrees-more (x ∷ xs) chosen (suc b) h =
+    let some : 1 ≤ suc b = omega arith in
+    let step = lesser-picks (fold min x xs) (suc b) h.1 some in
+    let e : fold min x (xs ++ suc b ∷ []) ≡ min (fold min x xs) (suc b) = fold-append min x xs (suc b ∷ []) in
+    subst (λ ys. Agrees (reduce min (x ∷ xs ++ ys)) (lesser_take chosen (suc b))) (sym (taken-stays (suc b) some))
+    (e ∙ sym step.0 ∙ ap (λ a. lesser_take a (suc b)) h.0, subst (λ v. 1 ≤ v) (sym e) step.1)
 
 module _ (n : Net) (p : ℕ) where
   -- a number that starts at 0 and becomes some takes in turn is the take of one of those takers
@@ -152,9 +150,15 @@ module _ (n : Net) (p : ℕ) where
       let same : k ≡ largest_take n p = h.0 ∙ e in
       (same, subst (IsLargestTake n p) (sym same) (largest-is (λ none. omega (arith, e, h.1))))
 
-  -- and the least
-  pub least-found : MatchOption (reduce min (takes_of (map (λ t. n.takes t p) (range_with_len 0 n.moves)))) (NoTaker n p) (λ m. (m ≡ least_take n p) × IsLeastTake n p m)
+  -- the least of the takes of the first moves that are not 0, as an iterator finds it
+  least-agrees : (k : ℕ) → Agrees (reduce min (takes_of (map (λ t. n.takes t p) (range_with_len 0 k)))) (least_below n p k)
   unfolding least_below
+  least-agrees zero = refl
+  least-agrees (suc k) =
+      subst (λ ys. Agrees (reduce min ys) (lesser_take (least_below n p k) (n.takes k p))) (sym (takes-more (λ t. n.takes t p) k))
+      (agrees-more (takes_of (map (λ t. n.takes t p) (range_with_len 0 k))) (least_below n p k) (n.takes k p) (least-agrees k))
+
+  pub least-found : MatchOption (reduce min (takes_of (map (λ t. n.takes t p) (range_with_len 0 n.moves)))) (NoTaker n p) (λ m. (m ≡ least_take n p) × IsLeastTake n p m)
   least-found =
       by_cases {Q' = λ m. (m ≡ least_take n p) × IsLeastTake n p m} _ least-none (λ m h. (h.0, subst (IsLeastTake n p) (sym h.0) (least-is (λ none. omega (arith, h.0, h.1, none)))))
-      (agrees min lesser_take (λ a. grind (arith, nat_tests)) (λ b. grind (arith, nat_tests)) lesser-picks (λ t. n.takes t p) (least_below n p) refl (λ k. refl) n.moves)
+      (least-agrees n.moves)
