@@ -27,9 +27,10 @@ pub fn limit_at<B: Board>(board: &B, p: u32) -> u32
 pub fn copied<B: ReadBoard>(board: &B) -> Counts
     ensures { marking result ≡ B.counts board.now }
 {
+    let places = board.places() as usize;
     let mut numbers = [0; MOST_PLACES as usize];
-    for (p, number) in numbers.iter_mut().enumerate() {
+    for (p, number) in numbers[..places].iter_mut().enumerate() {
         *number = held(board, p as u32);
     }
-    Counts::new(&numbers[..board.places() as usize]).unwrap()
+    Counts::new(&numbers[..places]).unwrap()
 }

@@ -27,8 +27,8 @@ pub record Rows (bytes arcs ts gs : List ℕ) : Type 0 where
 
 module _ {bytes arcs ts gs : List ℕ} {header : Header} (h : HeaderRead bytes header) (rows : Rows bytes arcs ts gs) where
   -- the first heavy number is the first heavy arc
-  pub heavy-arc : (k : ℕ) → (k < length arcs) × (1000 < get_or arcs k 0) × ((j : ℕ) → j < k → get_or arcs j 0 ≤ 1000) → FirstHeavy bytes (4 + 2 * k)
-  heavy-arc k found =
+  pub heavy-arc : (k offset : ℕ) → offset ≡ 4 + 2 * k → (k < length arcs) × (1000 < get_or arcs k 0) × ((j : ℕ) → j < k → get_or arcs j 0 ≤ 1000) → FirstHeavy bytes offset
+  heavy-arc k offset is found =
       let within : k < 2 * arcs_in bytes = omega (arith, rows.all.long) in
       record {
         index = k;

@@ -8,7 +8,7 @@ ghost use Rattle.sheet.specs.Spelled.{SpellsNet, SpellsCounts, SpellsCertificate
 ghost use Rattle.sheet.specs.Stages.{WeightRefused, ArcsLight, FieldsLawful, FieldRefused};
 
 use crate::framed::Framed;
-use crate::words::{Word, words};
+use crate::words::{Word, read_words};
 use clause::{Certificate, Kind};
 use net::{Counts, Plan};
 use refusal::SheetRefusal;
@@ -19,8 +19,9 @@ impl Framed<'_> {
         ensures { MatchResult result (λ plan. ArcsLight self.now.bytes.now × SpellsNet self.now.bytes.now (net plan)) (λ e. WeightRefused self.now.bytes.now e) }
     {
         let count = self.header.arcs();
-        let arcs: [u16; 1024] = words(self.bytes, 4, 2 * count);
-        let arcs = &arcs[..2 * count];
+        let mut arcs = [0u16; 1024];
+        let arcs = &mut arcs[..2 * count];
+        read_words(self.bytes, 4, arcs);
         let (takes, gives) = arcs.split_at(count);
         if let Some(k) = net::first_heavy(arcs) {
             return Err(SheetRefusal::Weight {
@@ -35,8 +36,10 @@ impl Framed<'_> {
         ensures { SpellsCounts self.now.bytes.now (marking result) }
     {
         let places = self.header.places as usize;
-        let numbers: [u32; 16] = words(self.bytes, self.header.counts_at(), places);
-        Counts::new(&numbers[..places]).unwrap()
+        let mut numbers = [0u32; 16];
+        let numbers = &mut numbers[..places];
+        read_words(self.bytes, self.header.counts_at(), numbers);
+        Counts::new(numbers).unwrap()
     }
 
     // The certificate that starts here, or its first field that is out of range.
@@ -51,8 +54,9 @@ impl Framed<'_> {
             });
         }
         let places = self.header.places as usize;
-        let numbers: [u16; 16] = words(self.bytes, start + 8, places);
-        let numbers = &numbers[..places];
+        let mut numbers = [0u16; 16];
+        let numbers = &mut numbers[..places];
+        read_words(self.bytes, start + 8, numbers);
         if let Some(p) = kind.first_refused(numbers) {
             return Err(SheetRefusal::Field {
                 offset: (start + 8 + 2 * p) as u32,

@@ -3,7 +3,7 @@ ghost use Rattle.std.specs.Prelude.{◌≡◌, ℕ, ◌+◌, ◌*◌, ◌<◌, �
 ghost use Rattle.sheet.specs.Layout.{word16, word32, word64};
 
 // A number of a sheet, by how many bytes it takes and which number the bytes at an offset spell.
-pub(crate) trait Word: Copy + Default {
+pub(crate) trait Word: Copy {
     ghost WIDTH: { ℕ };
 
     ghost spelled: { List ℕ → ℕ → Self };
@@ -51,14 +51,13 @@ impl Word for u64 {
     }
 }
 
-// The next `count` numbers.
-pub(crate) fn words<W: Word, const N: usize>(bytes: &[u8], at: usize, count: usize) -> [W; N]
-    requires { (count ≤ N) × (at + W.WIDTH * count ≤ length bytes.now) }
-    ensures { (k : ℕ) (none : W) → k < count → slice_index_or result k none ≡ W.spelled bytes.now (at + W.WIDTH * k) }
+// Fills `words` with the numbers that begin at an offset.
+pub(crate) fn read_words<W: Word>(bytes: &[u8], at: usize, words: &mut [W])
+    requires { at + W.WIDTH * length words.old ≤ length bytes.now }
+    ensures long { length words.new ≡ length words.old }
+    ensures each { (k : ℕ) (none : W) → k < length words.old → slice_index_or words.new k none ≡ W.spelled bytes.now (at + W.WIDTH * k) }
 {
-    let mut words = [W::default(); N];
-    for k in 0..count {
+    for k in 0..words.len() {
         words[k] = W::read(bytes, at + W::WIDTH * k);
     }
-    words
 }

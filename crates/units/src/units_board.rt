@@ -66,7 +66,7 @@ impl<'p, 'b, B: Board> ReadBoard for UnitsBoard<'p, 'b, B> {
 
     fn count(&self, p: u32) -> Option<u32> {
         let parts = self.in_units(p)?;
-        Some(parts.whole())
+        Some(parts.whole() as u32)
     }
 
     ghost few = { λ s. units-few (net s.plan.now) (B.Board.limits s.below.now) (B.ReadBoard.counts s.below.now) s.rests (B.ReadBoard.few s.below.now) };
@@ -86,7 +86,7 @@ impl<'p, 'b, B: Board> Board for UnitsBoard<'p, 'b, B> {
             full: limit,
             loose: unit - 1,
         };
-        Some(most.whole())
+        Some(most.whole() as u32)
     }
 
     fn set(&mut self, p: u32, n: u32) -> Result<(), NotSet> {

@@ -4,7 +4,6 @@ ghost use Rattle.clause.specs.Sets.{members_of, member_numbers, AreMembers};
 
 use super::PlaceSet;
 use net::MOST_PLACES;
-use std::array;
 
 impl PlaceSet {
     // The set of the places with a 1; none unless there are 1 to 16 numbers, each 0 or 1.
@@ -17,8 +16,12 @@ impl PlaceSet {
         {
             return None;
         }
+        let mut members = [false; 16];
+        for (p, &number) in numbers.iter().enumerate() {
+            members[p] = number == 1;
+        }
         Some(PlaceSet {
-            members: array::from_fn(|p| numbers.get(p) == Some(&1)),
+            members,
             len: numbers.len() as u32,
         })
     }

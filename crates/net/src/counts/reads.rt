@@ -14,7 +14,9 @@ impl Counts {
             return None;
         }
         let mut held = [0u32; 16];
-        held[..numbers.len()].copy_from_slice(numbers);
+        for (p, &number) in numbers.iter().enumerate() {
+            held[p] = number;
+        }
         Some(Counts {
             held,
             len: numbers.len() as u32,

@@ -14,7 +14,15 @@ impl Plan {
         ensures value { result ≡ is_fed (net self.now) (marking counts.now) t }
         ensures fed { MatchBool result (Fed (net self.now) (marking counts.now) t) (Fed (net self.now) (marking counts.now) t → ⊥) }
     {
-        t < self.moves && (0..self.places).all(|p| u32::from(self.take(t, p)) <= counts.held(p))
+        let Some(takes) = self.takes_of(t) else {
+            return false;
+        };
+        for p in 0..self.places {
+            if counts.held(p) < u32::from(takes[p as usize]) {
+                return false;
+            }
+        }
+        true
     }
 
     // The word in which the bit worth 2^t is set if and only if move t is fed.

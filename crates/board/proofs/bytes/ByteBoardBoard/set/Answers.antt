@@ -18,7 +18,7 @@ returns c =
     let low = n % 256 in
     let high = n / 256 % 256 in
     let pair = c.copy_from_slice.new.self in
-    let two : pair ≡ low ∷ high ∷ [] = c.copy_from_slice.ensures.after ∙ c.to_le_bytes.ensures in
+    let two : pair ≡ low ∷ high ∷ [] = search rules in
     let written : put_mid (2 * p) (2 * p + 2 - 2 * p) bytes pair ≡ set (set bytes (2 * p) low) (2 * p + 1) high =
     rw two (two-written (2 * p) (2 * p + 2 - 2 * p) bytes low high (omega arith) (omega (arith, pair-within bytes p there))) in
     record {

@@ -1,18 +1,20 @@
-use Rattle.std.proofs.Common.{rules, ◌≡◌, MatchOption, subst, sym, ◌∙◌, arith}
+use Rattle.std.proofs.Common.{rules, ◌≡◌, ◌<◌, MatchOption, ◌∙◌, arith}
 use borrow.Author.Tests.{tests}
-use Rattle.std.proofs.lemmas.Iterator.{YieldsList-from_range, YieldsList-from_map}
-use Rattle.std.proofs.lemmas.Iterator.Consumers.{YieldsList-at, YieldsList-from_filter, min_from_yields_List}
-use Rattle.std.proofs.lemmas.Iterator.Adapters.{option_map_id}
+use Rattle.std.proofs.lemmas.Iterator.{YieldsList-from_range}
+use Rattle.std.proofs.lemmas.Iterator.Consumers.{fold_from_yields_List}
 use Rattle.net.specs.Model.{net}
-use Rattle.net.specs.Takes.{NoTaker, least_take, IsLeastTake}
-use Rattle.net.proofs.Takers.{least-found}
+use Rattle.net.specs.Takes.{lesser_take, least_take, IsLeastTake}
+use Rattle.net.proofs.Takers.{least-found, least-none, least-is, kept-take}
 use Rattle.net.proofs.plan.Plan.least_take.Goals as goal
 
 pub returns : goal.returns
 returns c =
     let n = net c.args.self.now in
-    let found =
-    min_from_yields_List _ c.min.result c.min.ensures.ran
-    (YieldsList-from_filter _ _ (YieldsList-at c.filter.ensures.source (YieldsList-from_map _ (λ t. n.takes t c.args.p) (YieldsList-from_range 0 n.moves n.moves (cc) (omega arith)) c.map.ensures.closure (λ x r q k. search rules))) c.filter.ensures.closure (λ x r q k. search (rules, tests)))
+    let p = c.args.p in
+    let least = c.fold-least.result in
+    let folded =
+    fold_from_yields_List _ (λ a t. lesser_take a (n.takes t p)) 0 least c.fold-least.ensures.ran
+    (YieldsList-from_range 0 n.moves n.moves (cc) (omega arith)) (λ a x b q k. search rules)
     in
-    subst (λ r. MatchOption r (NoTaker n c.args.p) (λ m. (m ≡ least_take n c.args.p) × IsLeastTake n c.args.p m)) (sym (sym (option_map_id c.min.result) ∙ found)) (least-found n c.args.p)
+    let kept : MatchOption c.filter.result (least ≡ 0) (λ k. (k ≡ least) × (0 < least)) = search (rules, tests) in
+    kept-take n p least (least_take n p) (IsLeastTake n p) (least-none n p) (least-is n p) c.filter.result (folded ∙ least-found n p n.moves) kept
