@@ -1,4 +1,4 @@
-ghost use Rattle.std.specs.Prelude.{◌≡◌, ◌<◌, ◌≤◌, length, MatchOption, slice_index};
+ghost use Rattle.std.specs.Prelude.{◌≡◌, ◌<◌, length, MatchOption, slice_index};
 ghost use Rattle.net.specs.Answers.{AnswersAt};
 ghost use Rattle.net.specs.Marking.{marking};
 

@@ -1,5 +1,5 @@
 // Which moves are fed.
-ghost use Rattle.std.specs.Prelude.{◌≡◌, MatchBool, count_ones};
+ghost use Rattle.std.specs.Prelude.{◌≡◌, ◌↔◌, ◌≤◌, IsTrue, EachIndex, MatchBool, count_ones, length, slice_index};
 ghost use Rattle.net.specs.Net.{Fed};
 ghost use Rattle.net.specs.Fed.{is_fed, IsFedWord, fed_move_count};
 ghost use Rattle.net.specs.Marking.{marking};
@@ -9,20 +9,26 @@ use super::Plan;
 use crate::counts::Counts;
 
 impl Plan {
-    // Whether every place holds at least what move t takes there; false where the plan has no such move.
-    pub fn is_fed(&self, t: u32, counts: &Counts) -> bool
-        ensures value { result ≡ is_fed (net self.now) (marking counts.now) t }
-        ensures fed { MatchBool result (Fed (net self.now) (marking counts.now) t) (Fed (net self.now) (marking counts.now) t → ⊥) }
+    // Whether every place holds at least what a row of takes has there.
+    fn covers(&self, takes: &[u16], counts: &Counts) -> bool
+        requires { length takes.now ≡ (net self.now).places }
+        ensures { IsTrue result ↔ EachIndex takes.now (λ p. slice_index takes.now p ≤ slice_index (marking counts.now) p) }
     {
-        let Some(takes) = self.takes_of(t) else {
-            return false;
-        };
         for p in 0..self.places {
             if counts.held(p) < u32::from(takes[p as usize]) {
                 return false;
             }
         }
         true
+    }
+
+    // Whether every place holds at least what move t takes there; false where the plan has no such move.
+    pub fn is_fed(&self, t: u32, counts: &Counts) -> bool
+        ensures value { result ≡ is_fed (net self.now) (marking counts.now) t }
+        ensures fed { MatchBool result (Fed (net self.now) (marking counts.now) t) (Fed (net self.now) (marking counts.now) t → ⊥) }
+    {
+        self.takes_of(t)
+            .is_some_and(|takes| self.covers(takes, counts))
     }
 
     // The word in which the bit worth 2^t is set if and only if move t is fed.

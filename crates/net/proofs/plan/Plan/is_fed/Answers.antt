@@ -1,20 +1,13 @@
-use Rattle.std.proofs.Common.{rules, true, false}
+use Rattle.std.proofs.Common.{rules, MatchBool}
 use Rattle.net.specs.Net.{Fed}
 use Rattle.net.specs.Marking.{marking}
 use Rattle.net.specs.Model.{net}
 use Rattle.net.proofs.Tests.{told-fed}
 use Rattle.net.proofs.plan.Plan.is_fed.Goals as goal
 
-pub returns-then-held-from-clause-value : goal.returns-then-held-from-clause-value
-returns-then-held-from-clause-value c =
-    let n = net c.args.self.now in
-    let m = marking c.args.counts.now in
-    let unfed : Fed n m c.args.t → ⊥ = search rules in
-    told-fed false n m c.args.t unfed
-
 pub returns-clause-value : goal.returns-clause-value
 returns-clause-value c =
     let n = net c.args.self.now in
     let m = marking c.args.counts.now in
-    let fed : Fed n m c.args.t = search rules in
-    told-fed true n m c.args.t fed
+    let fed : MatchBool c.is_some_and.result (Fed n m c.args.t) (Fed n m c.args.t → ⊥) = search rules in
+    told-fed c.is_some_and.result n m c.args.t fed
